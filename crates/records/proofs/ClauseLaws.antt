@@ -1,0 +1,322 @@
+-- The laws of clause records: which literals a record holds that is made of a set of them, and that a record is its literals.
+use Prim.Native.Nat.{ℕ, zero, suc, _+_, _-_, _*_, _/_, _%_, _^_, _≤_, _<_}
+use mathlib.Core.Path.{_≡_, refl, sym, ap, ap₂, _∙_, subst}
+use mathlib.Core.Bool.{Bool, true, false, not, _&&_, _||_, true≢false, and-false, and-true, cond}
+use mathlib.Core.List.{List, [], _∷_}
+use native.Mathlib.Nat.{lt-of-le-of-lt, lt-irrefl}
+use native.Mathlib.Decide.{ℕ-discrete}
+use native.Mathlib.Omega.{arith}
+use borrow.Author.Tests.{eq-eqb, ne-eqb, eqb-true, eqb-false, lt-ltb, le-ltb, ltb-true, ltb-false}
+use borrow.Author.Count.{below-more}
+use lib.Dec.{eqb, ltb}
+use lib.ListN.{length, getD, set, length-set, List·getD-eq-default}
+use lib.Seq.{ext-getD, getD-set-same, getD-set-other}
+use lib.Pow.{pow-lt}
+use lib.Bits.{bitAnd, bitOr, and-le-l, or-lt}
+use Rattle.records.specs.Bits.{bitOf, numberOf}
+use Rattle.records.specs.Lists.{tabulate, every}
+use Rattle.records.specs.Clause.{has, literal, holds, bytesOf, without, resolved, resolvent, joined, takenOut, resolvedInto, empty}
+use Rattle.records.proofs.BitLaws.{bit-and, bit-or, bit-numberOf, numberOf-lt, numberOf-same, bits-ext, zero-bit, bit-not, bit-pow, test-bit}
+use Rattle.records.proofs.ListLaws.{length-tabulate, getD-tabulate}
+
+-- every element is a byte
+abbrev pub Bytes : List ℕ → Type 0
+Bytes r = (i : ℕ) → getD r i 0 < 256
+
+-- literal 8 * i + k is bit k of byte i
+pub has-at : (r : List ℕ) (i k : ℕ) → k < 8 → has r (8 * i + k) ≡ bitOf (getD r i 0) k
+unfolding has
+has-at r i k h =
+    let d : (8 * i + k) / 8 ≡ i = omega arith in
+    let m : (8 * i + k) % 8 ≡ k = omega arith in
+    rw (d, m) refl
+
+pub split8 : (l : ℕ) → 8 * (l / 8) + l % 8 ≡ l
+split8 l = omega arith
+
+-- a record holds nothing past its end
+pub has-past : (r : List ℕ) (l : ℕ) → 8 * length r ≤ l → has r l ≡ false
+unfolding has
+has-past r l h = rw (List·getD-eq-default r 0 {n = l / 8} (omega arith)) (zero-bit (l % 8))
+
+-- a record made of a set: its length, its bytes, its literals
+pub length-bytesOf : (n : ℕ) (s : ℕ → Bool) → length (bytesOf n s) ≡ n
+unfolding bytesOf
+length-bytesOf n s = length-tabulate n (λ i. numberOf 8 (λ k. s (8 * i + k)))
+
+pub byte-bytesOf : (n : ℕ) (s : ℕ → Bool) (i : ℕ) → i < n → getD (bytesOf n s) i 0 ≡ numberOf 8 (λ k. s (8 * i + k))
+unfolding bytesOf
+byte-bytesOf n s i h = getD-tabulate n (λ i. numberOf 8 (λ k. s (8 * i + k))) 0 i h
+
+pub has-bytesOf : (n : ℕ) (s : ℕ → Bool) (l : ℕ) → l < 8 * n → has (bytesOf n s) l ≡ s l
+unfolding has
+has-bytesOf n s l h =
+    ap (λ (x : ℕ). bitOf x (l % 8)) (byte-bytesOf n s (l / 8) (omega arith))
+    ∙ bit-numberOf 8 (λ k. s (8 * (l / 8) + k)) (l % 8) (omega arith)
+    ∙ ap s (split8 l)
+
+-- sets with the same literals have the same record
+pub bytesOf-same : (n : ℕ) (s t : ℕ → Bool) → ((l : ℕ) → s l ≡ t l) → bytesOf n s ≡ bytesOf n t
+bytesOf-same n s t e = ap (bytesOf n) (λ j. λ l. e l j)
+
+-- a list of n bytes whose bits are the set is the set's record
+pub bytesOf-is : (n : ℕ) (s : ℕ → Bool) (r : List ℕ) → length r ≡ n
+    → ((i : ℕ) → i < n → getD r i 0 < 256) → ((i k : ℕ) → i < n → k < 8 → bitOf (getD r i 0) k ≡ s (8 * i + k)) → r ≡ bytesOf n s
+bytesOf-is n s r e small h =
+    ext-getD 0 r (bytesOf n s) (e ∙ sym (length-bytesOf n s))
+    (λ i l.
+    bits-ext 8 (getD r i 0) (numberOf 8 (λ k. s (8 * i + k))) (small i (omega arith)) (numberOf-lt 8 (λ k. s (8 * i + k)))
+    (λ k m. h i k (omega arith) m ∙ sym (bit-numberOf 8 (λ k. s (8 * i + k)) k m))
+    ∙ sym (byte-bytesOf n s i (omega arith)))
+
+-- a record is its literals
+pub record-ext : (a b : List ℕ) → length a ≡ length b → Bytes a → Bytes b
+    → ((l : ℕ) → l < 8 * length a → has a l ≡ has b l) → a ≡ b
+record-ext a b e ha hb h =
+    ext-getD 0 a b e
+    (λ i l. bits-ext 8 (getD a i 0) (getD b i 0) (ha i) (hb i)
+    (λ k m. sym (has-at a i k m) ∙ h (8 * i + k) (omega arith) ∙ has-at b i k m))
+
+-- one bit, by the mask of that bit
+pub mask-has : (r : List ℕ) (l k : ℕ) → l % 8 ≡ k → not (eqb (bitAnd (getD r (l / 8) 0) (2 ^ k)) 0) ≡ has r l
+unfolding has
+mask-has r l k e = test-bit (getD r (l / 8) 0) k ∙ ap (bitOf (getD r (l / 8) 0)) (sym e)
+
+-- a byte without a bit, by a mask
+pub mask-takenOut : (byte k : ℕ) → k < 8 → byte < 256 → bitAnd byte (255 - 1 * 2 ^ k % 256) ≡ takenOut byte k
+unfolding takenOut
+mask-takenOut byte k l small =
+    let power : 2 ^ k < 2 ^ 8 = pow-lt {j = 8} (omega arith) in
+    let plain : 1 * 2 ^ k % 256 ≡ 2 ^ k = omega arith in
+    rw plain
+    (bits-ext 8 (bitAnd byte (255 - 2 ^ k)) (numberOf 8 (λ j. bitOf byte j && not (eqb j k)))
+    (lt-of-le-of-lt (and-le-l byte (255 - 2 ^ k)) small) (numberOf-lt 8 (λ j. bitOf byte j && not (eqb j k)))
+    (λ j m. bit-and byte (255 - 2 ^ k) j ∙ ap (λ (b : Bool). bitOf byte j && b) (bit-not 8 (2 ^ k) j power m ∙ ap not (bit-pow k j))
+    ∙ sym (bit-numberOf 8 (λ j. bitOf byte j && not (eqb j k)) j m)))
+
+pub takenOut-lt : (byte k : ℕ) → takenOut byte k < 256
+unfolding takenOut
+takenOut-lt byte k = numberOf-lt 8 (λ j. bitOf byte j && not (eqb j k))
+
+pub bit-takenOut : (byte k j : ℕ) → j < 8 → bitOf (takenOut byte k) j ≡ (bitOf byte j && not (eqb j k))
+unfolding takenOut
+bit-takenOut byte k j l = bit-numberOf 8 (λ j. bitOf byte j && not (eqb j k)) j l
+
+-- the empty clause: its bytes are zero, so it holds no literal; and a record that holds none is empty
+pub empty-is : (r : List ℕ) → ((i : ℕ) → i < length r → getD r i 0 ≡ 0) → empty r ≡ true
+unfolding empty every
+empty-is [] h = refl
+empty-is (x ∷ r) h = rw (eq-eqb x 0 (h 0 (omega arith))) (empty-is r (λ i l. h (suc i) (omega arith)))
+
+pub empty-not : (r : List ℕ) (i : ℕ) → (getD r i 0 ≡ 0 → ⊥) → empty r ≡ false
+unfolding empty every
+empty-not [] i h = absurd (h refl)
+empty-not (x ∷ r) zero h = rw (ne-eqb x 0 h) refl
+empty-not (x ∷ r) (suc i) h = rw (empty-not r i h) (and-false (eqb x 0))
+
+pub empty-byte : (r : List ℕ) → empty r ≡ true → (i : ℕ) → getD r i 0 ≡ 0
+empty-byte r e i = go (eqb (getD r i 0) 0) refl
+  where
+    go : (t : Bool) → eqb (getD r i 0) 0 ≡ t → getD r i 0 ≡ 0
+    go true q = eqb-true (getD r i 0) 0 q
+    go false q = absurd (true≢false (sym e ∙ empty-not r i (eqb-false (getD r i 0) 0 q)))
+
+pub empty-has : (r : List ℕ) → empty r ≡ true → (l : ℕ) → has r l ≡ false
+unfolding has
+empty-has r e l = rw (empty-byte r e (l / 8)) (zero-bit (l % 8))
+
+pub has-empty : (r : List ℕ) → Bytes r → ((l : ℕ) → l < 8 * length r → has r l ≡ false) → empty r ≡ true
+has-empty r b h =
+    empty-is r
+    (λ i l. bits-ext 8 (getD r i 0) 0 (b i) (omega arith) (λ k m. sym (has-at r i k m) ∙ h (8 * i + k) (omega arith) ∙ sym (zero-bit k)))
+
+-- a loop that writes f i at i, one index a turn
+pub written : (f : ℕ → ℕ) (out : List ℕ) (i v : ℕ) → i < length out → ((k : ℕ) → k < i → getD out k 0 ≡ f k) → v ≡ f i
+    → (k : ℕ) → k < i + 1 → getD (set out i v) k 0 ≡ f k
+written f out i v l all e =
+    below-more (λ (k : ℕ). getD (set out i v) k 0 ≡ f k) i
+    (λ k m. getD-set-other out i k v 0 (λ q. lt-irrefl k (omega arith)) ∙ all k m) (getD-set-same out i v 0 l ∙ e)
+
+-- and leaves what it has not come to
+pub unwritten : (f : ℕ → ℕ) (out : List ℕ) (i v : ℕ) → ((k : ℕ) → i ≤ k → getD out k 0 ≡ f k) → (k : ℕ) → i + 1 ≤ k → getD (set out i v) k 0 ≡ f k
+unwritten f out i v all k l = getD-set-other out i k v 0 (λ q. lt-irrefl k (omega arith)) ∙ all k (omega arith)
+
+-- two records joined byte by byte
+pub joined-is : (from to out : List ℕ) → length out ≡ length to → ((k : ℕ) → k < length to → getD out k 0 ≡ bitOr (getD to k 0) (getD from k 0)) → out ≡ joined from to
+unfolding joined
+joined-is from to out e h =
+    ext-getD 0 out (joined from to) (e ∙ sym (length-tabulate (length to) (λ i. bitOr (getD to i 0) (getD from i 0))))
+    (λ i l. h i (omega arith) ∙ sym (getD-tabulate (length to) (λ i. bitOr (getD to i 0) (getD from i 0)) 0 i (omega arith)))
+
+pub length-joined : (from to : List ℕ) → length (joined from to) ≡ length to
+unfolding joined
+length-joined from to = length-tabulate (length to) (λ i. bitOr (getD to i 0) (getD from i 0))
+
+pub byte-joined : (from to : List ℕ) (i : ℕ) → i < length to → getD (joined from to) i 0 ≡ bitOr (getD to i 0) (getD from i 0)
+unfolding joined
+byte-joined from to i l = getD-tabulate (length to) (λ i. bitOr (getD to i 0) (getD from i 0)) 0 i l
+
+-- a record's literals added to a set's record
+pub joined-bytesOf : (n : ℕ) (set : ℕ → Bool) (from : List ℕ) → Bytes from → joined from (bytesOf n set) ≡ bytesOf n (λ l. set l || has from l)
+joined-bytesOf n set from small =
+    bytesOf-is n (λ l. set l || has from l) (joined from (bytesOf n set)) (length-joined from (bytesOf n set) ∙ length-bytesOf n set)
+    (λ i l. rw (at i l) (or-lt 8 (numberOf 8 (λ k. set (8 * i + k))) (getD from i 0) (numberOf-lt 8 (λ k. set (8 * i + k))) (small i)))
+    (λ i k l m. rw (at i l) (bit-or (numberOf 8 (λ k. set (8 * i + k))) (getD from i 0) k ∙ ap₂ _||_ (bit-numberOf 8 (λ k. set (8 * i + k)) k m) (sym (has-at from i k m))))
+  where
+    at : (i : ℕ) → i < n → getD (joined from (bytesOf n set)) i 0 ≡ bitOr (numberOf 8 (λ k. set (8 * i + k))) (getD from i 0)
+    at i l =
+        byte-joined from (bytesOf n set) i (omega (arith, length-bytesOf n set))
+        ∙ ap (λ (x : ℕ). bitOr x (getD from i 0)) (byte-bytesOf n set i l)
+
+-- a literal that a record holds has a variable below 8h
+pub holds-bound : (h : ℕ) (r : List ℕ) (sign : Bool) (v : ℕ) → holds h r sign v ≡ true → v < 8 * h
+unfolding holds
+holds-bound h r sign v e = go (ltb v (8 * h)) refl e
+  where
+    go : (b : Bool) → ltb v (8 * h) ≡ b → (b && has r (literal h sign v)) ≡ true → v < 8 * h
+    go true q f = ltb-true v (8 * h) q
+    go false q f = absurd (true≢false (sym f))
+
+-- below 8h the literal's bit decides
+pub holds-has : (h : ℕ) (r : List ℕ) (sign : Bool) (v : ℕ) → v < 8 * h → holds h r sign v ≡ has r (literal h sign v)
+unfolding holds
+holds-has h r sign v l = rw (lt-ltb v (8 * h) l) refl
+
+pub holds-past : (h : ℕ) (r : List ℕ) (sign : Bool) (v : ℕ) → 8 * h ≤ v → holds h r sign v ≡ false
+unfolding holds
+holds-past h r sign v l = rw (le-ltb v (8 * h) l) refl
+
+pub literal-bound : (h : ℕ) (sign : Bool) (v : ℕ) → v < 8 * h → literal h sign v < 16 * h
+literal-bound h true v l = omega arith
+literal-bound h false v l = omega arith
+
+-- the resolvent: its length, its bits, and which literals it holds
+pub length-resolvent : (h : ℕ) (left right : List ℕ) (p : ℕ) → length (resolvent h left right p) ≡ 2 * h
+unfolding resolvent
+length-resolvent h left right p = length-bytesOf (2 * h) (resolved h left right p)
+
+pub has-resolvent : (h : ℕ) (left right : List ℕ) (p l : ℕ) → l < 16 * h → has (resolvent h left right p) l ≡ resolved h left right p l
+unfolding resolvent
+has-resolvent h left right p l m = has-bytesOf (2 * h) (resolved h left right p) l (omega arith)
+
+pub bytes-resolvent : (h : ℕ) (left right : List ℕ) (p : ℕ) → Bytes (resolvent h left right p)
+unfolding resolvent
+bytes-resolvent h left right p i = go (ltb i (2 * h)) refl
+  where
+    go : (b : Bool) → ltb i (2 * h) ≡ b → getD (bytesOf (2 * h) (resolved h left right p)) i 0 < 256
+    go true q = rw (byte-bytesOf (2 * h) (resolved h left right p) i (ltb-true i (2 * h) q)) (numberOf-lt 8 (λ k. resolved h left right p (8 * i + k)))
+    go false q = rw (List·getD-eq-default (bytesOf (2 * h) (resolved h left right p)) 0 {n = i} (omega (arith, ltb-false i (2 * h) q, length-bytesOf (2 * h) (resolved h left right p)))) (omega arith)
+
+-- two tests that say the same
+same-test : (a b c d : ℕ) → (a ≡ b → c ≡ d) → (c ≡ d → a ≡ b) → eqb a b ≡ eqb c d
+same-test a b c d f g = go (eqb a b) refl
+  where
+    go : (t : Bool) → eqb a b ≡ t → eqb a b ≡ eqb c d
+    go true e = e ∙ sym (eq-eqb c d (f (eqb-true a b e)))
+    go false e = e ∙ sym (ne-eqb c d (λ q. eqb-false a b e (g q)))
+
+-- the resolvent as the code makes it: all bytes joined, and the pivot's byte of each half written anew without the pivot's bit on its side
+module _ (h : ℕ) (left right : List ℕ) (p : ℕ) (small : p < 8 * h) (l-bytes : Bytes left) (r-bytes : Bytes right) where
+  abbrev positive : ℕ
+  positive = bitOr (takenOut (getD left (p / 8) 0) (p % 8)) (getD right (p / 8) 0)
+
+  abbrev negative : ℕ
+  negative = bitOr (getD left (h + p / 8) 0) (takenOut (getD right (h + p / 8) 0) (p % 8))
+
+  -- byte i of the resolvent is x
+  abbrev IsByte : ℕ → ℕ → Type 0
+  IsByte i x = (x < 256) × ((k : ℕ) → k < 8 → bitOf x k ≡ resolved h left right p (8 * i + k))
+
+  plain-byte : (i : ℕ) → (i ≡ p / 8 → ⊥) → (i ≡ h + p / 8 → ⊥) → IsByte i (bitOr (getD left i 0) (getD right i 0))
+  plain-byte i np nn = (
+    or-lt 8 (getD left i 0) (getD right i 0) (l-bytes i) (r-bytes i),
+    λ k m.
+        rw (bit-or (getD left i 0) (getD right i 0) k, has-at left i k m, has-at right i k m, ne-eqb (8 * i + k) p (λ q. np (omega arith)), ne-eqb (8 * i + k) (8 * h + p) (λ q. nn (omega arith)))
+        (sym (ap₂ _||_ (and-true (bitOf (getD left i 0) k)) (and-true (bitOf (getD right i 0) k)))),
+  )
+
+  positive-byte : IsByte (p / 8) positive
+  positive-byte = (
+    or-lt 8 (takenOut (getD left (p / 8) 0) (p % 8)) (getD right (p / 8) 0) (takenOut-lt (getD left (p / 8) 0) (p % 8)) (r-bytes (p / 8)),
+    λ k m.
+        rw (
+          bit-or (takenOut (getD left (p / 8) 0) (p % 8)) (getD right (p / 8) 0) k,
+          bit-takenOut (getD left (p / 8) 0) (p % 8) k m,
+          has-at left (p / 8) k m,
+          has-at right (p / 8) k m,
+          same-test (8 * (p / 8) + k) p k (p % 8) (λ q. omega arith) (λ q. omega arith),
+          ne-eqb (8 * (p / 8) + k) (8 * h + p) (λ q. lt-irrefl p (omega arith)),
+        )
+        (sym (ap (λ (b : Bool). bitOf (getD left (p / 8) 0) k && not (eqb k (p % 8)) || b) (and-true (bitOf (getD right (p / 8) 0) k)))),
+  )
+
+  negative-byte : IsByte (h + p / 8) negative
+  negative-byte = (
+    or-lt 8 (getD left (h + p / 8) 0) (takenOut (getD right (h + p / 8) 0) (p % 8)) (l-bytes (h + p / 8)) (takenOut-lt (getD right (h + p / 8) 0) (p % 8)),
+    λ k m.
+        rw (
+          bit-or (getD left (h + p / 8) 0) (takenOut (getD right (h + p / 8) 0) (p % 8)) k,
+          bit-takenOut (getD right (h + p / 8) 0) (p % 8) k m,
+          has-at left (h + p / 8) k m,
+          has-at right (h + p / 8) k m,
+          ne-eqb (8 * (h + p / 8) + k) p (λ q. lt-irrefl p (omega arith)),
+          same-test (8 * (h + p / 8) + k) (8 * h + p) k (p % 8) (λ q. omega arith) (λ q. omega arith),
+        )
+        (sym (ap (λ (b : Bool). b || bitOf (getD right (h + p / 8) 0) k && not (eqb k (p % 8))) (and-true (bitOf (getD left (h + p / 8) 0) k)))),
+  )
+
+  pub mended : (part : List ℕ) → length part ≡ 2 * h → ((k : ℕ) → k < 2 * h → getD part k 0 ≡ bitOr (getD left k 0) (getD right k 0))
+      → set (set part (p / 8) positive) (h + p / 8) negative ≡ resolvent h left right p
+  unfolding resolvent
+  mended part size all =
+      bytesOf-is (2 * h) (resolved h left right p) (set (set part (p / 8) positive) (h + p / 8) negative) (simp (length-set, length-set) size)
+      (λ i l. byte i l .0) (λ i k l m. byte i l .1 k m)
+    where
+      outer : h + p / 8 < length (set part (p / 8) positive)
+      outer = simp length-set (omega arith)
+
+      at : (i : ℕ) → i < 2 * h → Dec (i ≡ h + p / 8) → Dec (i ≡ p / 8) → IsByte i (getD (set (set part (p / 8) positive) (h + p / 8) negative) i 0)
+      at i l (yes e) d = rw (e, getD-set-same (set part (p / 8) positive) (h + p / 8) negative 0 outer) negative-byte
+      at i l (no n) (yes e) =
+          rw (getD-set-other (set part (p / 8) positive) (h + p / 8) i negative 0 (λ q. n q), e, getD-set-same part (p / 8) positive 0 (omega arith)) positive-byte
+      at i l (no n) (no m) =
+          rw (getD-set-other (set part (p / 8) positive) (h + p / 8) i negative 0 (λ q. n q), getD-set-other part (p / 8) i positive 0 (λ q. m q), all i l) (plain-byte i m n)
+
+      byte : (i : ℕ) → i < 2 * h → IsByte i (getD (set (set part (p / 8) positive) (h + p / 8) negative) i 0)
+      byte i l = at i l (ℕ-discrete i (h + p / 8)) (ℕ-discrete i (p / 8))
+
+-- the pivot's literal is taken out of its own side alone
+literal-test : (h : ℕ) (sign side : Bool) (v p : ℕ) → v < 8 * h → p < 8 * h → eqb (literal h sign v) (literal h side p) ≡ (cond side sign (not sign) && eqb v p)
+literal-test h true true v p l m = refl
+literal-test h false false v p l m = same-test (8 * h + v) (8 * h + p) v p (λ q. omega arith) (λ q. omega arith)
+literal-test h true false v p l m = ne-eqb v (8 * h + p) (λ q. lt-irrefl v (omega arith))
+literal-test h false true v p l m = ne-eqb (8 * h + v) p (λ q. lt-irrefl p (omega arith))
+
+pub holds-resolvent : (h : ℕ) (left right : List ℕ) (p : ℕ) (sign : Bool) (v : ℕ) → p < 8 * h
+    → holds h (resolvent h left right p) sign v ≡ (holds h left sign v && not (sign && eqb v p) || holds h right sign v && not (not sign && eqb v p))
+holds-resolvent h left right p sign v m = go (ltb v (8 * h)) refl
+  where
+    go : (b : Bool) → ltb v (8 * h) ≡ b
+        → holds h (resolvent h left right p) sign v ≡ (holds h left sign v && not (sign && eqb v p) || holds h right sign v && not (not sign && eqb v p))
+    go true q =
+        let l : v < 8 * h = ltb-true v (8 * h) q in
+        rw (
+          holds-has h (resolvent h left right p) sign v l,
+          holds-has h left sign v l,
+          holds-has h right sign v l,
+          has-resolvent h left right p (literal h sign v) (literal-bound h sign v l),
+          literal-test h sign true v p l m,
+          literal-test h sign false v p l m,
+        ) refl
+    go false q =
+        let l : 8 * h ≤ v = ltb-false v (8 * h) q in
+        rw (holds-past h (resolvent h left right p) sign v l, holds-past h left sign v l, holds-past h right sign v l) refl
+
+-- what was written into a part
+pub resolvedInto-record : (h : ℕ) (left right : List ℕ) (p : ℕ) (part : List ℕ) → length part ≡ 2 * h → resolvedInto h left right p part ≡ resolvent h left right p
+unfolding resolvedInto
+resolvedInto-record h left right p part e = rw (eq-eqb (length part) (2 * h) e) refl
+
+pub resolvedInto-other : (h : ℕ) (left right : List ℕ) (p : ℕ) (part : List ℕ) → (length part ≡ 2 * h → ⊥) → resolvedInto h left right p part ≡ part
+unfolding resolvedInto
+resolvedInto-other h left right p part n = rw (ne-eqb (length part) (2 * h) n) refl

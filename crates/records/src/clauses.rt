@@ -1,0 +1,65 @@
+// Clause records: the bit test, and the resolvent of two of them.
+ghost use mathlib.Core.Path.{_≡_};
+ghost use Prim.Native.Nat.{_*_, _<_, _≤_};
+ghost use lib.ListN.{length};
+ghost use Rattle.records.specs.Clause.{has, takenOut, resolvent, resolvedInto};
+
+// Bit `literal` of a record. It tests a literal of a clause, a variable's colour and an assignment alike; past the end there is none.
+pub fn has_literal(clause: &[u8], literal: usize) -> bool
+    ensures { λ r. ⌜ r ≡ has (now (clause .entry)) literal ⌝ }
+{
+    let at = literal / 8;
+    if clause.len() <= at {
+        return false;
+    }
+    let byte = clause[at];
+    let bit = literal % 8;
+    match bit {
+        0 => byte & 1 != 0,
+        1 => byte & 2 != 0,
+        2 => byte & 4 != 0,
+        3 => byte & 8 != 0,
+        4 => byte & 16 != 0,
+        5 => byte & 32 != 0,
+        6 => byte & 64 != 0,
+        _ => byte & 128 != 0,
+    }
+}
+
+// A byte without its bit k.
+fn take_out(byte: u8, k: usize) -> u8
+    requires { ⌜ k < 8 ⌝ }
+    ensures { λ r. ⌜ r ≡ takenOut byte k ⌝ }
+{
+    let bit = k as u8;
+    byte & !(1u8 << bit)
+}
+
+// The resolvent of two records with half bytes for each sign, in place. All bytes are joined first, without a branch; then the
+// pivot's byte of each half is written anew, with the pivot's literal masked out of the side that loses it.
+pub(crate) fn resolve_halves(half: usize, left: &[u8], right: &[u8], pivot: usize, part: &mut [u8])
+    requires { ⌜ (half ≤ 64) × (pivot < 8 * half) × (length (now left) ≡ 2 * half) × (length (now right) ≡ 2 * half) × (length (now part) ≡ 2 * half) ⌝ }
+    ensures { λ r. ⌜ now (part .exit) ≡ resolvent half (now (left .entry)) (now (right .entry)) pivot ⌝ }
+{
+    let size = 2 * half;
+    let mut i: usize = 0;
+    while i < size {
+        part[i] = left[i] | right[i];
+        i += 1;
+    }
+    let positive = pivot / 8;
+    let negative = half + positive;
+    let k = pivot % 8;
+    part[positive] = take_out(left[positive], k) | right[positive];
+    part[negative] = left[negative] | take_out(right[negative], k);
+}
+
+// The resolvent of left, which loses the pivot's positive literal, and right, which loses the negative one, written to a record
+// in place. A part that is no record is left as it is.
+pub fn resolve(left: &[u8; 64], right: &[u8; 64], pivot: u8, part: &mut [u8])
+    ensures { λ r. ⌜ now (part .exit) ≡ resolvedInto 32 (now (left .entry)) (now (right .entry)) pivot (now (part .entry)) ⌝ }
+{
+    if part.len() == 64 {
+        resolve_halves(32, left, right, pivot as usize, part);
+    }
+}
