@@ -14,7 +14,7 @@ use Rattle.records.specs.Clause.{holds, empty}
 use Rattle.records.specs.Table.{recordAt, records, occurs}
 use Rattle.records.specs.Step.{stepAt, stepCount}
 use Rattle.records.specs.Tests.{firstFailed, refused, tableTests, roomTests, stepTests, rootTests}
-use Rattle.records.specs.Derivation.{inputs, clauseAt, workAfter, verdictAt, stopAt, stepsVerdict, rootOf, Outcome, judged, andThen, ran, rooted, derived, ByRule}
+use Rattle.records.specs.Derivation.{inputs, clauseAt, workAfter, verdictAt, stopAt, stepsVerdict, rootOf, Outcome, judged, andThen, ran, rooted, derived, ByRule, clauseCount, lastWork, Sizes}
 use Rattle.records.proofs.NumberLaws.{strong, in-parts}
 use Rattle.records.proofs.ListLaws.{first-le, first-holds, first-before, first-found}
 use Rattle.records.proofs.ClauseLaws.{holds-bound, holds-resolvent}
@@ -105,21 +105,6 @@ module _ (h : ℕ) (a b : List ℕ) (step : ℕ → Step) (work : List ℕ) (s :
             (λ n m. clause-kept h a b step work s room n i s m (omega arith) (omega arith)) (rules i l) in
             rw (rule-by h (clauseAt h a b (workAfter h a b step work i)) (inputs h a b + i) i (step i) rule) refl
 
--- the work table after all steps, and how many clauses there are then
-abbrev pub lastWork : ℕ → List ℕ → List ℕ → List ℕ → List ℕ → List ℕ
-lastWork h a b steps work = workAfter h a b (stepAt steps) work (stepCount steps)
-
-abbrev pub clauseCount : ℕ → List ℕ → List ℕ → List ℕ → ℕ
-clauseCount h a b steps = inputs h a b + stepCount steps
-
--- what tests 1 to 5 ask for
-pub record Sizes (h most : ℕ) (a b steps work : List ℕ) : Type 0 where
-  pub a-whole : length a % (2 * h) ≡ 0
-  pub b-whole : length b % (2 * h) ≡ 0
-  pub steps-whole : length steps % 8 ≡ 0
-  pub few : clauseCount h a b steps ≤ most
-  pub room : 2 * h * stepCount steps ≤ length work
-
 -- what all tests ask for
 record Complete (h most : ℕ) (a b steps work : List ℕ) : Type 0 where
   sizes : Sizes h most a b steps work
@@ -139,6 +124,7 @@ pub record Accepted (h most : ℕ) (a b steps work : List ℕ) : Type 0 where
 
 -- two rounds of tests without a refusal
 sequence : (o : Outcome) (next : List ℕ → Outcome) → andThen o next .number ≡ 0 → (o .number ≡ 0) × (next (o .work) .number ≡ 0)
+unfolding andThen
 sequence o next e = go (eqb (o .number) 0) refl e
   where
     go : (t : Bool) → eqb (o .number) 0 ≡ t → cond t (next (o .work)) o .number ≡ 0 → (o .number ≡ 0) × (next (o .work) .number ≡ 0)
@@ -185,7 +171,7 @@ module _ (h most : ℕ) (a b steps work : List ℕ) where
 
   zero-by : Complete h most a b steps work
       → derived h most a b steps work ≡ record { number = 0; place = rootOf h a b (lastWork h a b steps work) (clauseCount h a b steps); work = lastWork h a b steps work }
-  unfolding derived ran rooted firstFailed tableTests roomTests rootTests
+  unfolding derived andThen ran rooted firstFailed tableTests roomTests rootTests
   zero-by c =
       rw (
         eq-eqb (length a % (2 * h)) 0 (c .sizes .a-whole),

@@ -7,6 +7,7 @@ pub mod StepLaws
 pub mod TableLaws
 pub mod TestLaws
 pub mod DerivationLaws
+pub mod InsideLaws
 pub mod WorkLaws
 pub mod MeaningLaws
 pub mod AcceptanceLaws

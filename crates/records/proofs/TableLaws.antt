@@ -15,7 +15,7 @@ use lib.Seq.{getD-take, getD-drop, length-take-le, ext-getD, take-at, drop-at, d
 use Rattle.records.specs.Lists.{tabulate, some, every}
 use Rattle.records.specs.Clause.{has, literal, holds, bytesOf, joined, empty}
 use Rattle.records.specs.Table.{recordAt, records, put, firstEmpty, clausesOf, occurs, literalsOf}
-use Rattle.records.proofs.ListLaws.{some-here, some-where, some-snoc, every-at, by-truth}
+use Rattle.records.proofs.ListLaws.{first-le, some-here, some-where, some-snoc, every-at, by-truth}
 use Rattle.records.proofs.ClauseLaws.{Bytes, has-bytesOf, bytesOf-same, joined-bytesOf, holds-has, holds-past, holds-bound, literal-bound, empty-is, empty-not}
 
 -- a product is an unknown to `omega`: the laws speak of w * r + w
@@ -55,6 +55,13 @@ recordAt-out w t r h = rw (lt-leb (w * (r + 1)) (length t) (omega (arith, next-r
 pub length-recordAt : (w : ℕ) (t : List ℕ) (r : ℕ) → w * r + w ≤ length t → length (recordAt w t r) ≡ w
 length-recordAt w t r h = rw (recordAt-in w t r h) (length-take-le w (drop (w * r) t) (omega (arith, length-drop (w * r) t)))
 
+-- a record that a table has is whole, and n records are there where n fit
+pub record-size : (w : ℕ) (t : List ℕ) (r : ℕ) → 0 < w → r < records w t → length (recordAt w t r) ≡ w
+record-size w t r p l = length-recordAt w t r (whole w (length t) r p l)
+
+pub records-room : (w : ℕ) (t : List ℕ) (n : ℕ) → 0 < w → w * n ≤ length t → n ≤ records w t
+records-room w t n p l = le-div-iff-mul-le p .1 (omega (arith, mul-comm n w))
+
 pub byte-recordAt : (w : ℕ) (t : List ℕ) (r i : ℕ) → w * r + w ≤ length t → i < w → getD (recordAt w t r) i 0 ≡ getD t (w * r + i) 0
 byte-recordAt w t r i h l = rw (recordAt-in w t r h, getD-take w (drop (w * r) t) i 0 l) (getD-drop (w * r) t i 0)
 
@@ -73,6 +80,10 @@ record-empty w t r h z =
 
 pub record-not-empty : (w : ℕ) (t : List ℕ) (r i : ℕ) → w * r + w ≤ length t → i < w → (getD t (w * r + i) 0 ≡ 0 → ⊥) → empty (recordAt w t r) ≡ false
 record-not-empty w t r i h l n = empty-not (recordAt w t r) i (λ e. n (sym (byte-recordAt w t r i h l) ∙ e))
+
+pub firstEmpty-le : (w : ℕ) (t : List ℕ) (n : ℕ) → firstEmpty w t n ≤ n
+unfolding firstEmpty
+firstEmpty-le w t n = first-le (λ r. empty (recordAt w t r)) n
 
 -- a table of bytes has records of bytes
 pub bytes-recordAt : (w : ℕ) (t : List ℕ) (r : ℕ) → Bytes t → Bytes (recordAt w t r)

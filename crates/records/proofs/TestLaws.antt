@@ -1,10 +1,10 @@
 -- The laws of ordered tests: the first that fails answers, and where none is refused all passed.
 use Prim.Native.Nat.{ℕ, zero, suc, _+_, _*_, _%_, _≤_, _<_}
 use mathlib.Core.Path.{_≡_, refl, sym, ap, _∙_}
-use mathlib.Core.Bool.{Bool, true, false, not, _&&_, cond, true≢false}
+use mathlib.Core.Bool.{Bool, true, false, not, _&&_, cond, true≢false, and-false}
 use mathlib.Core.List.{List, [], _∷_}
 use native.Mathlib.Omega.{arith}
-use borrow.Author.Tests.{eq-eqb, ne-eqb, eqb-true, ltb-true, leb-true, lt-ltb, le-leb}
+use borrow.Author.Tests.{eq-eqb, ne-eqb, eqb-true, lt-ltb, le-ltb}
 use lib.Dec.{eqb, leb, ltb}
 use lib.ListN.{length}
 use Rattle.records.specs.declared.tests.Verdict.{Verdict}
@@ -89,3 +89,32 @@ step-numbered h clause own i s = (omega arith, refl, (omega arith, refl, (omega 
 pub root-numbered : (root n : ℕ) → Numbered 0 (rootTests root n)
 unfolding rootTests
 root-numbered root n = (omega arith, refl, tt)
+
+-- which test of a step fails first
+module _ (h : ℕ) (clause : ℕ → List ℕ) (own i : ℕ) (s : Step) where
+  pub spare-fails : s .spare ≡ false → firstFailed (stepTests h clause own i s) .number ≡ 7
+  unfolding stepTests firstFailed
+  spare-fails e = rw e refl
+
+  module _ (spare : s .spare ≡ true) where
+    pub left-late : own ≤ s .left → firstFailed (stepTests h clause own i s) .number ≡ 8
+    unfolding stepTests firstFailed
+    left-late l = rw (spare, le-ltb (s .left) own l) refl
+
+    pub right-late : own ≤ s .right → firstFailed (stepTests h clause own i s) .number ≡ 8
+    unfolding stepTests firstFailed
+    right-late l = rw (spare, le-ltb (s .right) own l, and-false (ltb (s .left) own)) refl
+
+    module _ (left-early : s .left < own) (right-early : s .right < own) where
+      pub left-lacks : holds h (clause (s .left)) true (s .pivot) ≡ false → firstFailed (stepTests h clause own i s) .number ≡ 9
+      unfolding stepTests firstFailed
+      left-lacks e = rw (spare, lt-ltb (s .left) own left-early, lt-ltb (s .right) own right-early, e) refl
+
+      module _ (left-has : holds h (clause (s .left)) true (s .pivot) ≡ true) where
+        pub right-lacks : holds h (clause (s .right)) false (s .pivot) ≡ false → firstFailed (stepTests h clause own i s) .number ≡ 10
+        unfolding stepTests firstFailed
+        right-lacks e = rw (spare, lt-ltb (s .left) own left-early, lt-ltb (s .right) own right-early, left-has, e) refl
+
+        pub none-fails : holds h (clause (s .right)) false (s .pivot) ≡ true → firstFailed (stepTests h clause own i s) .number ≡ 0
+        unfolding stepTests firstFailed
+        none-fails e = rw (spare, lt-ltb (s .left) own left-early, lt-ltb (s .right) own right-early, left-has, e) refl

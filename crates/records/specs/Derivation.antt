@@ -1,5 +1,5 @@
 -- The derivation over tables A and B, the steps and the work table: where it stops, with which number, and what it leaves in the work table.
-use Prim.Native.Nat.{ℕ, zero, suc, _+_, _-_, _*_, _<_}
+use Prim.Native.Nat.{ℕ, zero, suc, _+_, _-_, _*_, _%_, _≤_, _<_}
 use mathlib.Core.Path.{_≡_}
 use mathlib.Core.Bool.{Bool, true, false, cond}
 use mathlib.Core.List.{List, []}
@@ -61,7 +61,7 @@ abbrev pub judged : Verdict → List ℕ → Outcome
 judged v work = record { number = v .number; place = v .place; work = work }
 
 -- a refusal stands; without one the next tests decide, over the work table as it is then
-abbrev pub andThen : Outcome → (List ℕ → Outcome) → Outcome
+unfoldable pub andThen : Outcome → (List ℕ → Outcome) → Outcome
 andThen o next = cond (eqb (o .number) 0) (next (o .work)) o
 
 -- 7 to 10: "7 to 10 at step i leave work records 0 to i-1 as resolvents"
@@ -96,3 +96,18 @@ pub record ByRule (h : ℕ) (clause : ℕ → List ℕ) (own : ℕ) (s : Step) :
   pub right-earlier : s .right < own
   pub left-holds : holds h (clause (s .left)) true (s .pivot) ≡ true
   pub right-holds : holds h (clause (s .right)) false (s .pivot) ≡ true
+
+-- how many clauses there are, results counted, and the work table after all steps
+abbrev pub clauseCount : ℕ → List ℕ → List ℕ → List ℕ → ℕ
+clauseCount h a b steps = inputs h a b + stepCount steps
+
+abbrev pub lastWork : ℕ → List ℕ → List ℕ → List ℕ → List ℕ → List ℕ
+lastWork h a b steps work = workAfter h a b (stepAt steps) work (stepCount steps)
+
+-- the limits that tests 1 to 5 set
+pub record Sizes (h most : ℕ) (a b steps work : List ℕ) : Type 0 where
+  pub a-whole : length a % (2 * h) ≡ 0
+  pub b-whole : length b % (2 * h) ≡ 0
+  pub steps-whole : length steps % 8 ≡ 0
+  pub few : clauseCount h a b steps ≤ most
+  pub room : 2 * h * stepCount steps ≤ length work
