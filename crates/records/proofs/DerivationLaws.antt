@@ -131,7 +131,7 @@ module _ (h : ℕ) (a b : List ℕ) (step : ℕ → Step) (work w : List ℕ) (i
       record {
         number = at-turn ∙ sym (ap (λ (v : Verdict). v .number) verdict);
         place = sym (ap (λ (v : Verdict). v .place) verdict
-        ∙ refused-place i (stepTests h (clauseAt h a b (workAfter h a b step work i)) (inputs h a b + i) i (step i)) (step-numbered h (clauseAt h a b (workAfter h a b step work i)) (inputs h a b + i) i (step i)) is-bad);
+            ∙ refused-place i (stepTests h (clauseAt h a b (workAfter h a b step work i)) (inputs h a b + i) i (step i)) (step-numbered h (clauseAt h a b (workAfter h a b step work i)) (inputs h a b + i) i (step i)) is-bad);
         work = same ∙ ap (workAfter h a b step work) stop;
       }
 

@@ -16,7 +16,7 @@ ghost use Prim.Native.Nat.{_+_, _*_, _<_};
 ghost use lib.ListN.{length};
 ghost use Rattle.records.specs.Step.{stepAt, stepCount};
 ghost use Rattle.records.specs.Derivation.{inputs, clauseAt, rootOf, andThen, ran, rooted, derived, Derives};
-ghost use Rattle.records.specs.Inside.{Sized, Parts, StepTested};
+ghost use Rattle.records.specs.Inside.{Sized, Parts, StepTested, StepTaken};
 
 // A copy of clause k, one of the inputs and the first n results.
 fn fetch(half: usize, a: &[u8], b: &[u8], work: &[u8], n: usize, k: usize, part: &mut [u8])
@@ -85,7 +85,36 @@ fn test_step(
     0
 }
 
-// All steps in order up to the first that fails. Each test of a step is decided before a byte of its record is written.
+// Step i: read, tested, and, where it is good, its resolvent written to its own record. Each test is decided before a byte of the
+// record is written. The number of the refusal, or 0.
+fn take_step(
+    half: usize,
+    a: &[u8],
+    b: &[u8],
+    steps: &[u8],
+    i: usize,
+    work: &mut [u8],
+    left: &mut [u8],
+    right: &mut [u8],
+) -> usize
+    requires { ⌜ Sized half (now a) (now b) (now work) (i + 1) ⌝ }
+    requires { ⌜ Parts half (now left) (now right) ⌝ }
+    ensures { λ r. ⌜ StepTaken half (now (a .entry)) (now (b .entry)) (stepAt (now (steps .entry)) i) i (now (work .entry)) (now (work .exit)) r ⌝ }
+{
+    let step = read_step(steps, i);
+    let number = test_step(half, a, b, work, i, step, left, right);
+    if number != 0 {
+        return number;
+    }
+    let pivot = step.pivot;
+    let size = 2 * half;
+    let start = size * i;
+    let end = start + size;
+    resolve_halves(half, left, right, pivot, &mut work[start..end]);
+    0
+}
+
+// All steps in order up to the first that fails.
 fn run_steps(
     half: usize,
     a: &[u8],
@@ -99,19 +128,13 @@ fn run_steps(
     requires { ⌜ Parts half (now left) (now right) ⌝ }
     ensures { λ r. ⌜ Derives (ran half (now (a .entry)) (now (b .entry)) (stepAt (now (steps .entry))) (stepCount (now (steps .entry))) (now (work .entry))) (now (work .exit)) r ⌝ }
 {
-    let size = 2 * half;
     let n = steps.len() / 8;
     let mut i: usize = 0;
     while i < n {
-        let step = read_step(steps, i);
-        let number = test_step(half, a, b, work, i, step, left, right);
+        let number = take_step(half, a, b, steps, i, work, left, right);
         if number != 0 {
             return Verdict { number, place: i };
         }
-        let pivot = step.pivot;
-        let start = size * i;
-        let end = start + size;
-        resolve_halves(half, left, right, pivot, &mut work[start..end]);
         i += 1;
     }
     Verdict {

@@ -45,9 +45,10 @@ slice-aggregate-derive-halves-2 c = search needs
 
 -- src/derivation.rt:193:5
 derive-halves-requires : tie.Need-derive-halves-requires
-derive-halves-requires c κs =
-    (sized-by 32 1024 _ _ _ _ (omega arith) (omega arith) (omega arith) (sym ((c .before .before .before .before .before .before .before .test-tables) .ensures .number) ∙ (c .before .before .before .before .before .before .if1) .left) (sym ((c .before .before .before .before .test-room) .ensures .number) ∙ (c .before .before .before .if2) .left),
-      record { left-size = refl; right-size = refl })
+derive-halves-requires c κs = (
+  sized-by 32 1024 _ _ _ _ (omega arith) (omega arith) (omega arith) (sym ((c .before .before .before .before .before .before .before .test-tables) .ensures .number) ∙ (c .before .before .before .before .before .before .if1) .left) (sym ((c .before .before .before .before .test-room) .ensures .number) ∙ (c .before .before .before .if2) .left),
+  record { left-size = refl; right-size = refl },
+)
 
 -- src/derivation.rt:178:1
 same-length-2 : tie.Need-same-length-2
