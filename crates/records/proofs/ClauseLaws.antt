@@ -9,8 +9,8 @@ use native.Mathlib.Omega.{arith}
 use borrow.Author.Tests.{eq-eqb, ne-eqb, eqb-true, eqb-false, lt-ltb, le-ltb, ltb-true, ltb-false}
 use borrow.Author.Count.{below-more}
 use lib.Dec.{eqb, ltb}
-use lib.ListN.{length, getD, set, length-set, List·getD-eq-default}
-use lib.Seq.{ext-getD, getD-set-same, getD-set-other}
+use lib.ListN.{length, getD, set, take, length-set, List·getD-eq-default}
+use lib.Seq.{ext-getD, getD-take, getD-set-same, getD-set-other}
 use lib.Pow.{pow-lt}
 use lib.Bits.{bitAnd, bitOr, and-le-l, or-lt}
 use Rattle.records.specs.Bits.{bitOf, numberOf}
@@ -56,8 +56,12 @@ has-bytesOf n s l h =
     ∙ ap s (split8 l)
 
 -- sets with the same literals have the same record
-pub bytesOf-same : (n : ℕ) (s t : ℕ → Bool) → ((l : ℕ) → s l ≡ t l) → bytesOf n s ≡ bytesOf n t
-bytesOf-same n s t e = ap (bytesOf n) (λ j. λ l. e l j)
+pub bytesOf-below : (n : ℕ) (s t : ℕ → Bool) → ((l : ℕ) → l < 8 * n → s l ≡ t l) → bytesOf n s ≡ bytesOf n t
+bytesOf-below n s t e =
+    ext-getD 0 (bytesOf n s) (bytesOf n t) (length-bytesOf n s ∙ sym (length-bytesOf n t))
+    (λ i l.
+    let m : i < n = omega (arith, length-bytesOf n s) in
+    byte-bytesOf n s i m ∙ numberOf-same 8 (λ k. s (8 * i + k)) (λ k. t (8 * i + k)) (λ k q. e (8 * i + k) (omega arith)) ∙ sym (byte-bytesOf n t i m))
 
 -- a list of n bytes whose bits are the set is the set's record
 pub bytesOf-is : (n : ℕ) (s : ℕ → Bool) (r : List ℕ) → length r ≡ n
@@ -311,6 +315,28 @@ holds-resolvent h left right p sign v m = go (ltb v (8 * h)) refl
     go false q =
         let l : 8 * h ≤ v = ltb-false v (8 * h) q in
         rw (holds-past h (resolvent h left right p) sign v l, holds-past h left sign v l, holds-past h right sign v l) refl
+
+-- a record is read from the first 2h bytes alone
+pub has-first : (n : ℕ) (r : List ℕ) (l : ℕ) → l < 8 * n → has (take n r) l ≡ has r l
+unfolding has
+has-first n r l m = ap (λ (x : ℕ). bitOf x (l % 8)) (getD-take n r (l / 8) 0 (omega arith))
+
+pub holds-first : (h : ℕ) (r : List ℕ) (sign : Bool) (v : ℕ) → holds h (take (2 * h) r) sign v ≡ holds h r sign v
+holds-first h r sign v = go (ltb v (8 * h)) refl
+  where
+    go : (b : Bool) → ltb v (8 * h) ≡ b → holds h (take (2 * h) r) sign v ≡ holds h r sign v
+    go true q =
+        let l : v < 8 * h = ltb-true v (8 * h) q in
+        holds-has h (take (2 * h) r) sign v l ∙ has-first (2 * h) r (literal h sign v) (omega (arith, literal-bound h sign v l)) ∙ sym (holds-has h r sign v l)
+    go false q =
+        let l : 8 * h ≤ v = ltb-false v (8 * h) q in
+        holds-past h (take (2 * h) r) sign v l ∙ sym (holds-past h r sign v l)
+
+pub resolvent-first : (h : ℕ) (left right : List ℕ) (p : ℕ) → resolvent h (take (2 * h) left) (take (2 * h) right) p ≡ resolvent h left right p
+unfolding resolvent
+resolvent-first h left right p =
+    bytesOf-below (2 * h) (resolved h (take (2 * h) left) (take (2 * h) right) p) (resolved h left right p)
+    (λ l m. rw (has-first (2 * h) left l m, has-first (2 * h) right l m) refl)
 
 -- what was written into a part
 pub resolvedInto-record : (h : ℕ) (left right : List ℕ) (p : ℕ) (part : List ℕ) → length part ≡ 2 * h → resolvedInto h left right p part ≡ resolvent h left right p

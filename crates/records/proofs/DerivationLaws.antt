@@ -2,21 +2,19 @@
 use Prim.Native.Nat.{ℕ, zero, suc, _+_, _-_, _*_, _≤_, _<_}
 use mathlib.Core.Path.{_≡_, refl, sym, ap, _∙_, subst}
 use mathlib.Core.Bool.{Bool, true, false, not, cond}
-use mathlib.Core.List.{List, [], _++_}
+use mathlib.Core.List.{List, []}
 use native.Mathlib.Numerals.{add-one}
 use native.Mathlib.Omega.{arith}
 use borrow.Author.Tests.{lt-ltb, le-ltb, eq-eqb, ne-eqb}
 use lib.Dec.{ltb, eqb}
-use lib.ListN.{take, drop}
 use Rattle.records.specs.declared.tests.Verdict.{Verdict}
 use Rattle.records.specs.declared.steps.Step.{Step}
 use Rattle.records.specs.Lists.{first}
-use Rattle.records.specs.Clause.{resolvent, empty}
-use Rattle.records.specs.Table.{recordAt, records, put, firstEmpty}
+use Rattle.records.specs.Clause.{empty}
+use Rattle.records.specs.Table.{recordAt, records, firstEmpty}
 use Rattle.records.specs.Tests.{firstFailed, refused, stepTests, rootTests, Says}
 use Rattle.records.specs.Derivation.{inputs, clauseAt, stored, workAfter, verdictAt, stopAt, stepsVerdict, rootOf, Outcome, judged, andThen, ran, rooted, Derives}
 use Rattle.records.proofs.ListLaws.{first-is, first-same, first-in, first-past}
-use Rattle.records.proofs.TableLaws.{put-part}
 use Rattle.records.proofs.TestLaws.{refused-is, refused-not, refused-place, step-numbered}
 
 -- a clause by its number: of A, of B, or a result
@@ -72,12 +70,6 @@ module _ (h : ℕ) (a b work : List ℕ) (n : ℕ) where
     unfolding rootOf
     root-in-results none-in-b r e =
         first-past without-literal (inputs h a b) n r (omega (arith, first-inputs (firstEmpty (2 * h) b (records (2 * h) b)) refl)) (e ∙ sym of-results)
-
--- a step's resolvent in its own record, as the code lends it
-pub stored-part : (h : ℕ) (a b : List ℕ) (s : Step) (i : ℕ) (work new left right : List ℕ) → left ≡ clauseAt h a b work (s .left) → right ≡ clauseAt h a b work (s .right)
-    → new ≡ resolvent h left right (s .pivot) → take (2 * h * i) work ++ (new ++ drop (2 * h * i + 2 * h - 2 * h * i) (drop (2 * h * i) work)) ≡ stored h a b s i work
-unfolding stored
-stored-part h a b s i work new left right el er e = put-part (2 * h) work i new (2 * h * i) refl ∙ ap (put (2 * h) work i) (e ∙ rw (el, er) refl)
 
 -- the steps, one after the other
 module _ (h : ℕ) (a b : List ℕ) (step : ℕ → Step) (work : List ℕ) where

@@ -10,13 +10,13 @@ use native.Mathlib.Omega.{arith}
 use native.Mathlib.Decide.{decLt}
 use borrow.Author.Tests.{le-leb, lt-leb, leb-true, leb-false}
 use lib.Dec.{leb}
-use lib.ListN.{length, getD, take, drop, length-append, length-drop, List·getD-append, List·getD-eq-default}
+use lib.ListN.{length, getD, take, drop, take-append-drop, length-append, length-drop, List·getD-append, List·getD-eq-default}
 use lib.Seq.{getD-take, getD-drop, length-take-le, ext-getD, take-at, drop-at, drop-drop}
 use Rattle.records.specs.Lists.{tabulate, some, every}
 use Rattle.records.specs.Clause.{has, literal, holds, bytesOf, joined, empty}
 use Rattle.records.specs.Table.{recordAt, records, put, firstEmpty, clausesOf, occurs, literalsOf}
 use Rattle.records.proofs.ListLaws.{first-le, some-here, some-where, some-snoc, every-at, by-truth}
-use Rattle.records.proofs.ClauseLaws.{Bytes, has-bytesOf, bytesOf-same, joined-bytesOf, holds-has, holds-past, holds-bound, literal-bound, empty-is, empty-not}
+use Rattle.records.proofs.ClauseLaws.{Bytes, has-bytesOf, bytesOf-below, joined-bytesOf, holds-has, holds-past, holds-bound, literal-bound, empty-is, empty-not}
 
 -- a product is an unknown to `omega`: the laws speak of w * r + w
 pub next-record : (w r : ℕ) → w * (r + 1) ≡ w * r + w
@@ -153,6 +153,13 @@ put-part w t i new start e =
     let n : start + w - start ≡ w = omega arith in
     rw (n, e) refl
 
+-- a record written as it was leaves the table
+pub put-same : (w : ℕ) (t : List ℕ) (i : ℕ) → w * i + w ≤ length t → put w t i (recordAt w t i) ≡ t
+unfolding put
+put-same w t i h =
+    ap (λ (l : List ℕ). take (w * i) t ++ (l ++ drop w (drop (w * i) t))) (recordAt-in w t i h)
+    ∙ ap (λ (l : List ℕ). take (w * i) t ++ l) (take-append-drop w (drop (w * i) t)) ∙ take-append-drop (w * i) t
+
 -- the clauses of a table, by their numbers
 pub some-clause : (h : ℕ) (t : List ℕ) (p : List ℕ → Bool) (r : ℕ) → r < records (2 * h) t → p (recordAt (2 * h) t r) ≡ true → some p (clausesOf h t) ≡ true
 unfolding clausesOf
@@ -202,7 +209,7 @@ no-literals h t = refl
 pub more-literals : (h : ℕ) (t : List ℕ) (r : ℕ) → Bytes (recordAt (2 * h) t r) → joined (recordAt (2 * h) t r) (literalsBefore h t r) ≡ literalsBefore h t (r + 1)
 more-literals h t r small =
     joined-bytesOf (2 * h) (λ l. some (λ c. has c l) (tabulate r (recordAt (2 * h) t))) (recordAt (2 * h) t r) small
-    ∙ bytesOf-same (2 * h) _ _ (λ l. sym (some-snoc (λ c. has c l) r (recordAt (2 * h) t)))
+    ∙ bytesOf-below (2 * h) _ _ (λ l m. sym (some-snoc (λ c. has c l) r (recordAt (2 * h) t)))
 
 pub all-literals : (h : ℕ) (t : List ℕ) → literalsBefore h t (records (2 * h) t) ≡ literalsOf h t
 unfolding literalsOf clausesOf

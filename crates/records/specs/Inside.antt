@@ -1,9 +1,12 @@
 -- What the private pieces of the derivation ask and promise. No public contract speaks of these.
 use Prim.Native.Nat.{ℕ, _+_, _*_, _≤_, _<_}
 use mathlib.Core.Path.{_≡_}
+use mathlib.Core.Bool.{Bool, true, false, cond}
 use mathlib.Core.List.{List}
 use lib.ListN.{length}
 use Rattle.records.specs.declared.steps.Step.{Step}
+use Rattle.records.specs.Clause.{holds, resolvent}
+use Rattle.records.specs.Table.{put}
 use Rattle.records.specs.Tests.{firstFailed, stepTests}
 use Rattle.records.specs.Derivation.{inputs, clauseAt, stored}
 
@@ -14,19 +17,31 @@ pub record Sized (h : ℕ) (a b work : List ℕ) (n : ℕ) : Type 0 where
   pub few : inputs h a b + n ≤ 1024
   pub room : 2 * h * n ≤ length work
 
--- two parts to copy a step's antecedents into
-pub record Parts (h : ℕ) (left right : List ℕ) : Type 0 where
-  pub left-size : length left ≡ 2 * h
-  pub right-size : length right ≡ 2 * h
+-- r is the number of the test that a step fails, 7 or 8, whatever its pivot and the clauses are; or 0 where it fails neither
+pub record OrderTested (spare : Bool) (left right own r : ℕ) : Type 0 where
+  pub bad : (r ≡ 0 → ⊥) → (h : ℕ) (clause : ℕ → List ℕ) (i pivot : ℕ)
+      → r ≡ firstFailed (stepTests h clause own i (record { left = left; right = right; pivot = pivot; spare = spare })) .number
+  pub zeros : r ≡ 0 → spare ≡ true
+  pub left-earlier : r ≡ 0 → left < own
+  pub right-earlier : r ≡ 0 → right < own
 
--- r is the number of the first test of step i that fails; where none does, the parts hold the antecedents
-pub record StepTested (h : ℕ) (a b work : List ℕ) (i : ℕ) (s : Step) (left right : List ℕ) (r : ℕ) : Type 0 where
-  pub number : r ≡ firstFailed (stepTests h (clauseAt h a b work) (inputs h a b + i) i s) .number
-  pub variable : r ≡ 0 → s .pivot < 8 * h
-  pub left-is : r ≡ 0 → left ≡ clauseAt h a b work (s .left)
-  pub right-is : r ≡ 0 → right ≡ clauseAt h a b work (s .right)
+-- 9, 10 or 0
+unfoldable pub pivotNumber : ℕ → List ℕ → List ℕ → ℕ → ℕ
+pivotNumber h left right pivot = cond (holds h left true pivot) (cond (holds h right false pivot) 0 10) 9
 
--- r is that number, and the work table afterwards has the step's resolvent, or is as it was where the step is refused
+-- r is that number, and the part afterwards is the resolvent, or is as it was where r is a refusal
+pub record PivotTaken (h : ℕ) (left right : List ℕ) (pivot : ℕ) (part last : List ℕ) (r : ℕ) : Type 0 where
+  pub number : r ≡ pivotNumber h left right pivot
+  pub good : r ≡ 0 → last ≡ resolvent h left right pivot
+  pub bad : (r ≡ 0 → ⊥) → last ≡ part
+
+-- the same of the antecedents by their numbers, and the work table
+pub record StepResolved (h : ℕ) (a b : List ℕ) (left right pivot i : ℕ) (work last : List ℕ) (r : ℕ) : Type 0 where
+  pub number : r ≡ pivotNumber h (clauseAt h a b work left) (clauseAt h a b work right) pivot
+  pub good : r ≡ 0 → last ≡ put (2 * h) work i (resolvent h (clauseAt h a b work left) (clauseAt h a b work right) pivot)
+  pub bad : (r ≡ 0 → ⊥) → last ≡ work
+
+-- r is the number of the first test of step i that fails, or 0, and the work table afterwards has the step's resolvent, or is as it was where the step is refused
 pub record StepTaken (h : ℕ) (a b : List ℕ) (s : Step) (i : ℕ) (work last : List ℕ) (r : ℕ) : Type 0 where
   pub number : r ≡ firstFailed (stepTests h (clauseAt h a b work) (inputs h a b + i) i s) .number
   pub good : r ≡ 0 → last ≡ stored h a b s i work

@@ -19,7 +19,7 @@ stepOf s =
       left = pairAt s 0;
       right = pairAt s 2;
       pivot = getD s 4 0;
-      spare = eqb (getD s 5 0) 0 && (eqb (getD s 6 0) 0 && eqb (getD s 7 0) 0);
+      spare = eqb (getD s 5 0) 0 && eqb (getD s 6 0) 0 && eqb (getD s 7 0) 0;
     }
 
 -- step i of a table; past the table's end every byte reads as zero

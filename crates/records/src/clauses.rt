@@ -35,10 +35,10 @@ fn take_out(byte: u8, k: usize) -> u8
     byte & !(1u8 << bit)
 }
 
-// The resolvent of two records with half bytes for each sign, in place. All bytes are joined first, without a branch; then the
+// The resolvent of two records with half bytes for each sign, each in the first bytes of its part, in place. All bytes are joined first, without a branch; then the
 // pivot's byte of each half is written anew, with the pivot's literal masked out of the side that loses it.
 pub(crate) fn resolve_halves(half: usize, left: &[u8], right: &[u8], pivot: usize, part: &mut [u8])
-    requires { ⌜ (half ≤ 64) × (pivot < 8 * half) × (length (now left) ≡ 2 * half) × (length (now right) ≡ 2 * half) × (length (now part) ≡ 2 * half) ⌝ }
+    requires { ⌜ (half ≤ 64) × (pivot < 8 * half) × (2 * half ≤ length (now left)) × (2 * half ≤ length (now right)) × (length (now part) ≡ 2 * half) ⌝ }
     ensures { λ r. ⌜ now (part .exit) ≡ resolvent half (now (left .entry)) (now (right .entry)) pivot ⌝ }
 {
     let size = 2 * half;

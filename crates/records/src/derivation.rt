@@ -5,133 +5,143 @@ use crate::clauses::has_literal;
 use crate::clauses::resolve_halves;
 use crate::steps::Step;
 use crate::steps::read_step;
-use crate::tables::copy;
+use crate::tables::copy_record;
 use crate::tables::first_empty_of;
-use crate::tables::record_of;
 use crate::tests::Verdict;
 use crate::tests::test_room;
 use crate::tests::test_tables;
 ghost use mathlib.Core.Path.{_≡_};
-ghost use Prim.Native.Nat.{_+_, _*_, _<_};
-ghost use lib.ListN.{length};
+ghost use Prim.Native.Nat.{_+_, _*_, _≤_, _<_};
+ghost use lib.ListN.{length, take};
+ghost use Rattle.records.specs.Table.{records};
 ghost use Rattle.records.specs.Step.{stepAt, stepCount};
 ghost use Rattle.records.specs.Derivation.{inputs, clauseAt, rootOf, andThen, ran, rooted, derived, Derives};
-ghost use Rattle.records.specs.Inside.{Sized, Parts, StepTested, StepTaken};
+ghost use Rattle.records.specs.Inside.{Sized, OrderTested, PivotTaken, StepResolved, StepTaken};
 
-// A copy of clause k, one of the inputs and the first n results.
-fn fetch(half: usize, a: &[u8], b: &[u8], work: &[u8], n: usize, k: usize, part: &mut [u8])
-    requires { ⌜ Sized half (now a) (now b) (now work) n ⌝ }
-    requires { ⌜ (k < inputs half (now a) (now b) + n) × (length (now part) ≡ 2 * half) ⌝ }
-    ensures { λ r. ⌜ now (part .exit) ≡ clauseAt half (now (a .entry)) (now (b .entry)) (now (work .entry)) k ⌝ }
+// A copy of clause k, one of those that are there, in the first bytes of the part.
+fn fetch(half: usize, a: &[u8], b: &[u8], work: &[u8], k: usize, part: &mut [u8; 128])
+    requires { ⌜ (0 < half) × (half ≤ 64) × (k < inputs half (now a) (now b) + records (2 * half) (now work)) × (length (now part) ≡ 128) ⌝ }
+    ensures { λ r. ⌜ take (2 * half) (now (part .exit)) ≡ clauseAt half (now (a .entry)) (now (b .entry)) (now (work .entry)) k ⌝ }
 {
     let size = 2 * half;
     let in_a = a.len() / size;
     if k < in_a {
-        copy(record_of(a, size, k), part);
+        copy_record(a, size, k, part);
         return;
     }
-    let in_b = b.len() / size;
     let j = k - in_a;
+    let in_b = b.len() / size;
     if j < in_b {
-        copy(record_of(b, size, j), part);
+        copy_record(b, size, j, part);
         return;
     }
-    copy(record_of(work, size, j - in_b), part);
+    copy_record(work, size, j - in_b, part);
 }
 
-// Tests 7 to 10 of step i, in that order: the number of the refusal, or 0. Both antecedents are copied once, and the tests read
-// the copies, which the resolvent is then made of.
-fn test_step(
-    half: usize,
-    a: &[u8],
-    b: &[u8],
-    work: &[u8],
-    i: usize,
-    step: Step,
-    left: &mut [u8],
-    right: &mut [u8],
-) -> usize
-    requires { ⌜ Sized half (now a) (now b) (now work) i ⌝ }
-    requires { ⌜ Parts half (now left) (now right) ⌝ }
-    ensures { λ r. ⌜ StepTested half (now (a .entry)) (now (b .entry)) (now (work .entry)) i step (now (left .exit)) (now (right .exit)) r ⌝ }
+// Tests 7 and 8 of a step whose own clause number is own: the number of the refusal, or 0.
+fn test_order(spare: bool, left: usize, right: usize, own: usize) -> usize
+    ensures { λ r. ⌜ OrderTested spare left right own r ⌝ }
 {
-    let spare = step.spare;
     if !spare {
         return 7;
     }
-    let size = 2 * half;
-    let own = a.len() / size + b.len() / size + i;
-    let first = step.left;
-    if own <= first {
+    if own <= left {
         return 8;
     }
-    let second = step.right;
-    if own <= second {
+    if own <= right {
         return 8;
     }
-    let pivot = step.pivot;
+    0
+}
+
+// Tests 9 and 10 on the antecedents, and then the resolvent: the number of the refusal, or 0 and the resolvent in the part.
+fn resolve_tested(
+    half: usize,
+    left: &[u8; 128],
+    right: &[u8; 128],
+    pivot: usize,
+    part: &mut [u8],
+) -> usize
+    requires { ⌜ (half ≤ 64) × (length (now part) ≡ 2 * half) ⌝ }
+    ensures { λ r. ⌜ PivotTaken half (now (left .entry)) (now (right .entry)) pivot (now (part .entry)) (now (part .exit)) r ⌝ }
+{
     let variables = 8 * half;
     if variables <= pivot {
         return 9;
     }
-    fetch(half, a, b, work, i, first, left);
     if !has_literal(left, pivot) {
         return 9;
     }
-    fetch(half, a, b, work, i, second, right);
     if !has_literal(right, variables + pivot) {
         return 10;
     }
+    resolve_halves(half, left, right, pivot, part);
     0
 }
 
-// Step i: read, tested, and, where it is good, its resolvent written to its own record. Each test is decided before a byte of the
-// record is written. The number of the refusal, or 0.
+// Step i over the clauses first and second, both earlier: the number of its refusal, or 0 and its resolvent in its own record. The
+// antecedents are copied once; the tests read the copies, and are decided before a byte of the record is written.
+fn resolve_step(
+    half: usize,
+    a: &[u8],
+    b: &[u8],
+    first: usize,
+    second: usize,
+    pivot: usize,
+    i: usize,
+    work: &mut [u8],
+) -> usize
+    requires { ⌜ Sized half (now a) (now b) (now work) (i + 1) ⌝ }
+    requires { ⌜ (first < inputs half (now a) (now b) + i) × (second < inputs half (now a) (now b) + i) ⌝ }
+    ensures { λ r. ⌜ StepResolved half (now (a .entry)) (now (b .entry)) first second pivot i (now (work .entry)) (now (work .exit)) r ⌝ }
+{
+    let mut left = [0u8; 128];
+    let mut right = [0u8; 128];
+    fetch(half, a, b, work, first, &mut left);
+    fetch(half, a, b, work, second, &mut right);
+    let size = 2 * half;
+    let start = size * i;
+    let end = start + size;
+    resolve_tested(half, &left, &right, pivot, &mut work[start..end])
+}
+
+// Step i, whose own clause number is own: the number of its refusal, or 0 and its resolvent in its own record.
 fn take_step(
     half: usize,
     a: &[u8],
     b: &[u8],
-    steps: &[u8],
+    own: usize,
+    step: Step,
     i: usize,
     work: &mut [u8],
-    left: &mut [u8],
-    right: &mut [u8],
 ) -> usize
     requires { ⌜ Sized half (now a) (now b) (now work) (i + 1) ⌝ }
-    requires { ⌜ Parts half (now left) (now right) ⌝ }
-    ensures { λ r. ⌜ StepTaken half (now (a .entry)) (now (b .entry)) (stepAt (now (steps .entry)) i) i (now (work .entry)) (now (work .exit)) r ⌝ }
+    requires { ⌜ own ≡ inputs half (now a) (now b) + i ⌝ }
+    ensures { λ r. ⌜ StepTaken half (now (a .entry)) (now (b .entry)) step i (now (work .entry)) (now (work .exit)) r ⌝ }
 {
-    let step = read_step(steps, i);
-    let number = test_step(half, a, b, work, i, step, left, right);
+    let spare = step.spare;
+    let first = step.left;
+    let second = step.right;
+    let pivot = step.pivot;
+    let number = test_order(spare, first, second, own);
     if number != 0 {
         return number;
     }
-    let pivot = step.pivot;
-    let size = 2 * half;
-    let start = size * i;
-    let end = start + size;
-    resolve_halves(half, left, right, pivot, &mut work[start..end]);
-    0
+    resolve_step(half, a, b, first, second, pivot, i, work)
 }
 
 // All steps in order up to the first that fails.
-fn run_steps(
-    half: usize,
-    a: &[u8],
-    b: &[u8],
-    steps: &[u8],
-    work: &mut [u8],
-    left: &mut [u8],
-    right: &mut [u8],
-) -> Verdict
+fn run_steps(half: usize, a: &[u8], b: &[u8], steps: &[u8], work: &mut [u8]) -> Verdict
     requires { ⌜ Sized half (now a) (now b) (now work) (stepCount (now steps)) ⌝ }
-    requires { ⌜ Parts half (now left) (now right) ⌝ }
     ensures { λ r. ⌜ Derives (ran half (now (a .entry)) (now (b .entry)) (stepAt (now (steps .entry))) (stepCount (now (steps .entry))) (now (work .entry))) (now (work .exit)) r ⌝ }
 {
+    let size = 2 * half;
+    let own = a.len() / size + b.len() / size;
     let n = steps.len() / 8;
     let mut i: usize = 0;
     while i < n {
-        let number = take_step(half, a, b, steps, i, work, left, right);
+        let step = read_step(steps, i);
+        let number = take_step(half, a, b, own + i, step, i, work);
         if number != 0 {
             return Verdict { number, place: i };
         }
@@ -163,27 +173,18 @@ fn find_root(half: usize, a: &[u8], b: &[u8], work: &[u8], n: usize) -> usize
 }
 
 // The steps, and then the root: 7 to 11, or 0 and the root's clause number.
-fn derive_halves(
-    half: usize,
-    a: &[u8],
-    b: &[u8],
-    steps: &[u8],
-    work: &mut [u8],
-    left: &mut [u8],
-    right: &mut [u8],
-) -> Verdict
+fn derive_halves(half: usize, a: &[u8], b: &[u8], steps: &[u8], work: &mut [u8]) -> Verdict
     requires { ⌜ Sized half (now a) (now b) (now work) (stepCount (now steps)) ⌝ }
-    requires { ⌜ Parts half (now left) (now right) ⌝ }
     ensures { λ r. ⌜ Derives (andThen (ran half (now (a .entry)) (now (b .entry)) (stepAt (now (steps .entry))) (stepCount (now (steps .entry))) (now (work .entry))) (rooted half (now (a .entry)) (now (b .entry)) (stepCount (now (steps .entry))))) (now (work .exit)) r ⌝ }
 {
-    let ran = run_steps(half, a, b, steps, work, left, right);
+    let ran = run_steps(half, a, b, steps, work);
     let number = ran.number;
     if number != 0 {
         return ran;
     }
+    let size = 2 * half;
     let n = steps.len() / 8;
     let root = find_root(half, a, b, work, n);
-    let size = 2 * half;
     if root < a.len() / size + b.len() / size + n {
         return Verdict {
             number: 0,
@@ -211,7 +212,5 @@ pub fn derive(a: &[u8], b: &[u8], steps: &[u8], work: &mut [u8]) -> Verdict
     if of_room != 0 {
         return room;
     }
-    let mut left = [0u8; 64];
-    let mut right = [0u8; 64];
-    derive_halves(32, a, b, steps, work, &mut left, &mut right)
+    derive_halves(32, a, b, steps, work)
 }

@@ -12,18 +12,12 @@ pub struct Step {
     pub spare: bool,
 }
 
-fn wide(x: u8) -> usize
-    ensures { λ r. ⌜ (r ≡ x) × (r < 256) ⌝ }
-{
-    x as usize
-}
-
 // The number in two bytes, little endian.
 fn pair(s: &[u8], at: usize) -> usize
     requires { ⌜ at + 1 < length (now s) ⌝ }
-    ensures { λ r. ⌜ (r ≡ pairAt (now (s .entry)) at) × (r < 65536) ⌝ }
+    ensures { λ r. ⌜ r ≡ pairAt (now (s .entry)) at ⌝ }
 {
-    wide(s[at]) + 256 * wide(s[at + 1])
+    s[at] as usize + 256 * (s[at + 1] as usize)
 }
 
 // Step i of a table. Past the table's end every byte reads as zero.
@@ -41,8 +35,8 @@ pub fn read_step(steps: &[u8], i: usize) -> Step
     }
     let left = pair(s, 0);
     let right = pair(s, 2);
-    let pivot = wide(s[4]);
-    let tail = wide(s[5]) + wide(s[6]) + wide(s[7]);
+    let pivot = s[4] as usize;
+    let tail = s[5] | s[6] | s[7];
     Step {
         left,
         right,

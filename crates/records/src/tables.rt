@@ -1,7 +1,7 @@
 // Tables of records: handing one back, copying one, the first that is empty, and all literals of a table.
 ghost use mathlib.Core.Path.{_≡_};
 ghost use Prim.Native.Nat.{_+_, _*_, _/_, _<_, _≤_};
-ghost use lib.ListN.{length};
+ghost use lib.ListN.{length, take};
 ghost use mathlib.Core.Bool.{false};
 ghost use Rattle.records.specs.Clause.{bytesOf, joined};
 ghost use Rattle.records.specs.Table.{recordAt, records, firstEmpty, literalsOf};
@@ -27,14 +27,15 @@ pub fn record(table: &[u8], r: usize) -> &[u8]
     record_of(table, 64, r)
 }
 
-// A copy of a part into another of the same length.
-pub(crate) fn copy(from: &[u8], to: &mut [u8])
-    requires { ⌜ length (now to) ≡ length (now from) ⌝ }
-    ensures { λ r. ⌜ now (to .exit) ≡ now (from .entry) ⌝ }
+// A copy of record r, which the table has, into the first bytes of a part that has room for a record of any size.
+pub(crate) fn copy_record(table: &[u8], size: usize, r: usize, part: &mut [u8; 128])
+    requires { ⌜ (0 < size) × (size ≤ 128) × (r < records size (now table)) × (length (now part) ≡ 128) ⌝ }
+    ensures { λ _. ⌜ take size (now (part .exit)) ≡ recordAt size (now (table .entry)) r ⌝ }
 {
+    let start = size * r;
     let mut i: usize = 0;
-    while i < from.len() {
-        to[i] = from[i];
+    while i < size {
+        part[i] = table[start + i];
         i += 1;
     }
 }

@@ -1,5 +1,5 @@
 -- `records::derivation::derive` meets its contract: tests 1 to 4, test 5, and then the derivation. Assumes nothing.
-use mathlib.Core.Path.{refl, sym, _∙_}
+use mathlib.Core.Path.{sym, _∙_}
 use native.Mathlib.Omega.{arith}
 use Rattle.records.specs.Derivation.{derived}
 use Rattle.records.proofs.DerivationLaws.{judged-says, derives-refused, derives-next}
@@ -13,53 +13,42 @@ use Rattle.records.proofs.derivation.derive_halves.Reads as derive-halv
 use Rattle.records.proofs.tests.test_room.Reads as test-room-reads
 use Rattle.records.proofs.tests.test_tables.Reads as test-tables-reads
 
--- src/derivation.rt:181:9
+-- src/derivation.rt:205:9
 test-tables-requires : tie.Need-test-tables-requires
 test-tables-requires c κs = search needs
 
--- src/derivation.rt:184:9
+-- src/derivation.rt:208:9
 returns : tie.Need-returns
 unfolding derived
 returns c = derives-refused _ _ _ (judged-says _ _ _ ((c .before .test-tables) .ensures)) _ ((c .if1) .taken)
 
--- src/derivation.rt:186:9
+-- src/derivation.rt:210:9
 test-room-requires : tie.Need-test-room-requires
 test-room-requires c κs = search needs
 
--- src/derivation.rt:189:9
+-- src/derivation.rt:213:9
 same-length : tie.Need-same-length
 same-length c = search needs
 
--- src/derivation.rt:189:9
+-- src/derivation.rt:213:9
 returns-2 : tie.Need-returns-2
 unfolding derived
 returns-2 c = derives-next _ _ _ (judged-says _ _ _ ((c .before .before .before .before .test-tables) .ensures)) _ ((c .before .before .before .if1) .left) _ _ (derives-refused _ _ _ (judged-says _ _ _ ((c .before .test-room) .ensures)) _ ((c .if2) .taken))
 
--- src/derivation.rt:193:42
-slice-aggregate-derive-halves : tie.Need-slice-aggregate-derive-halves
-slice-aggregate-derive-halves c = search needs
-
--- src/derivation.rt:193:53
-slice-aggregate-derive-halves-2 : tie.Need-slice-aggregate-derive-halves-2
-slice-aggregate-derive-halves-2 c = search needs
-
--- src/derivation.rt:193:5
+-- src/derivation.rt:215:5
 derive-halves-requires : tie.Need-derive-halves-requires
-derive-halves-requires c κs = (
-  sized-by 32 1024 _ _ _ _ (omega arith) (omega arith) (omega arith) (sym ((c .before .before .before .before .before .before .before .test-tables) .ensures .number) ∙ (c .before .before .before .before .before .before .if1) .left) (sym ((c .before .before .before .before .test-room) .ensures .number) ∙ (c .before .before .before .if2) .left),
-  record { left-size = refl; right-size = refl },
-)
+derive-halves-requires c κs = sized-by 32 1024 _ _ _ _ (omega arith) (omega arith) (omega arith) (sym ((c .before .before .before .before .before .test-tables) .ensures .number) ∙ (c .before .before .before .before .if1) .left) (sym ((c .before .before .test-room) .ensures .number) ∙ (c .before .if2) .left)
 
--- src/derivation.rt:178:1
+-- src/derivation.rt:202:1
 same-length-2 : tie.Need-same-length-2
 same-length-2 c = search needs
 
--- src/derivation.rt:178:1
+-- src/derivation.rt:202:1
 returns-3 : tie.Need-returns-3
 unfolding derived
 returns-3 c =
-    derives-next _ _ _ (judged-says _ _ _ ((c .before .before .before .before .before .before .before .before .before .before .before .before .test-tables) .ensures)) _ ((c .before .before .before .before .before .before .before .before .before .before .before .if1) .left) _ _
-    (derives-next _ _ _ (judged-says _ _ _ ((c .before .before .before .before .before .before .before .before .before .test-room) .ensures)) _ ((c .before .before .before .before .before .before .before .before .if2) .left) _ _ ((c .before .before .before .before .derive-halves) .ensures))
+    derives-next _ _ _ (judged-says _ _ _ ((c .before .before .before .before .before .before .before .before .test-tables) .ensures)) _ ((c .before .before .before .before .before .before .before .if1) .left) _ _
+    (derives-next _ _ _ (judged-says _ _ _ ((c .before .before .before .before .before .test-room) .ensures)) _ ((c .before .before .before .before .if2) .left) _ _ ((c .before .before .derive-halves) .ensures))
 
 pub derive-spec : {M : Type 1} → statement M
 derive-spec =
@@ -70,8 +59,6 @@ derive-spec =
     test-room-requires
     same-length
     returns-2
-    slice-aggregate-derive-halves
-    slice-aggregate-derive-halves-2
     derive-halves-requires
     same-length-2
     returns-3)
