@@ -11,3 +11,4 @@ pub mod InsideLaws
 pub mod WorkLaws
 pub mod MeaningLaws
 pub mod AcceptanceLaws
+pub mod Unique
