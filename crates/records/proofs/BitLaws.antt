@@ -1,14 +1,14 @@
 -- The laws of bits: what the operations on numbers do to them, and that a number is its bits.
-use Prim.Native.Nat.{ℕ, zero, suc, _+_, _-_, _*_, _/_, _%_, _^_, _≤_, _<_, min, max}
-use mathlib.Core.Path.{_≡_, refl, sym, ap, ap₂, _∙_, subst}
+use Prim.Native.Nat.{ℕ, zero, suc, _+_, _-_, _*_, _/_, _%_, _^_, _<_, min, max}
+use mathlib.Core.Path.{_≡_, refl, sym, ap, ap₂, _∙_}
 use mathlib.Core.Bool.{Bool, true, false, not, _&&_, _||_}
-use native.Mathlib.Nat.{mod-lt, zero-div, div-one, pow-zero, pow-suc}
-use native.Mathlib.Numerals.{add-one, one-add}
+use native.Mathlib.Nat.{zero-div, div-one, pow-suc}
+use native.Mathlib.Numerals.{one-add}
 use native.Mathlib.Omega.{arith}
-use borrow.Author.Tests.{eq-eqb, ne-eqb, eqb-true, eqb-false}
+use borrow.Author.Tests.{ne-eqb}
 use lib.Dec.{eqb, eqb·zero-suc, eqb·suc-zero, eqb·suc-suc}
 use lib.Pow.{shr-shr}
-use lib.Bits.{bitAnd, bitOr, and-step, or-step, and-shr, or-shr, and-mask, or-disjoint}
+use lib.Bits.{bitAnd, bitOr, and-step, or-step, and-shr, or-shr, and-mask}
 use Rattle.records.specs.Bits.{bitOf, digit, numberOf}
 
 -- the lowest bit, and the others

@@ -1,6 +1,6 @@
 -- The laws of clause records: which literals a record holds that is made of a set of them, and that a record is its literals.
 use Prim.Native.Nat.{ℕ, zero, suc, _+_, _-_, _*_, _/_, _%_, _^_, _≤_, _<_}
-use mathlib.Core.Path.{_≡_, refl, sym, ap, ap₂, _∙_, subst}
+use mathlib.Core.Path.{_≡_, refl, sym, ap, ap₂, _∙_}
 use mathlib.Core.Bool.{Bool, true, false, not, _&&_, _||_, true≢false, and-false, and-true, cond}
 use mathlib.Core.List.{List, [], _∷_}
 use native.Mathlib.Nat.{lt-of-le-of-lt, lt-irrefl}
@@ -14,7 +14,7 @@ use lib.Seq.{ext-getD, getD-take, getD-set-same, getD-set-other}
 use lib.Pow.{pow-lt}
 use lib.Bits.{bitAnd, bitOr, and-le-l, or-lt}
 use Rattle.records.specs.Bits.{bitOf, numberOf}
-use Rattle.records.specs.Lists.{tabulate, every}
+use Rattle.records.specs.Lists.{every}
 use Rattle.records.specs.Clause.{has, literal, holds, bytesOf, without, resolved, resolvent, joined, takenOut, resolvedInto, empty}
 use Rattle.records.proofs.BitLaws.{bit-and, bit-or, bit-numberOf, numberOf-lt, numberOf-same, bits-ext, zero-bit, bit-not, bit-pow, test-bit}
 use Rattle.records.proofs.ListLaws.{length-tabulate, getD-tabulate}

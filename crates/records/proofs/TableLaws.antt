@@ -1,22 +1,21 @@
 -- The laws of tables: a record's bytes, a table with one record written anew, and what occurs in a table.
-use Prim.Native.Nat.{ℕ, zero, suc, _+_, _-_, _*_, _/_, _%_, _≤_, _<_}
-use mathlib.Core.Path.{_≡_, refl, sym, ap, ap₂, _∙_, subst}
-use mathlib.Core.Bool.{Bool, true, false, _&&_, _||_, true≢false, or-true, cond}
-use mathlib.Core.List.{List, [], _∷_, _++_}
+use Prim.Native.Nat.{ℕ, zero, _+_, _-_, _*_, _/_, _≤_, _<_}
+use mathlib.Core.Path.{_≡_, refl, sym, ap, _∙_, subst}
+use mathlib.Core.Bool.{Bool, true, false, _||_, or-true}
+use mathlib.Core.List.{List, [], _++_}
 use mathlib.Core.Logic.{_⊎_, inl, inr, ⊎-elim}
 use native.Mathlib.Nat.{mul-suc, mul-comm, mul-le-mul-left, le-div-iff-mul-le, div-lt-iff-lt-mul}
 use native.Mathlib.Numerals.{add-one}
 use native.Mathlib.Omega.{arith}
 use native.Mathlib.Decide.{decLt}
-use borrow.Author.Tests.{le-leb, lt-leb, leb-true, leb-false}
-use lib.Dec.{leb}
+use borrow.Author.Tests.{le-leb, lt-leb}
 use lib.ListN.{length, getD, take, drop, take-append-drop, length-append, length-drop, List·getD-append, List·getD-eq-default}
 use lib.Seq.{getD-take, getD-drop, length-take-le, ext-getD, take-at, drop-at, drop-drop}
 use Rattle.records.specs.Lists.{tabulate, some, every}
 use Rattle.records.specs.Clause.{has, literal, holds, bytesOf, joined, empty}
 use Rattle.records.specs.Table.{recordAt, records, put, firstEmpty, clausesOf, occurs, literalsOf}
 use Rattle.records.proofs.ListLaws.{first-le, some-here, some-where, some-snoc, every-at, by-truth}
-use Rattle.records.proofs.ClauseLaws.{Bytes, has-bytesOf, bytesOf-below, joined-bytesOf, holds-has, holds-past, holds-bound, literal-bound, empty-is, empty-not}
+use Rattle.records.proofs.ClauseLaws.{Bytes, has-bytesOf, bytesOf-below, joined-bytesOf, holds-has, holds-bound, literal-bound, empty-is, empty-not}
 
 -- a product is an unknown to `omega`: the laws speak of w * r + w
 pub next-record : (w r : ℕ) → w * (r + 1) ≡ w * r + w

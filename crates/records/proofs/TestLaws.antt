@@ -1,17 +1,14 @@
 -- The laws of ordered tests: the first that fails answers, and where none is refused all passed.
-use Prim.Native.Nat.{ℕ, zero, suc, _+_, _*_, _%_, _≤_, _<_}
-use mathlib.Core.Path.{_≡_, refl, sym, ap, _∙_}
-use mathlib.Core.Bool.{Bool, true, false, not, _&&_, cond, true≢false, and-false}
+use Prim.Native.Nat.{ℕ, _≤_, _<_}
+use mathlib.Core.Path.{_≡_, refl, ap}
+use mathlib.Core.Bool.{Bool, true, false, not, cond, true≢false, and-false}
 use mathlib.Core.List.{List, [], _∷_}
 use native.Mathlib.Omega.{arith}
 use borrow.Author.Tests.{eq-eqb, ne-eqb, eqb-true, lt-ltb, le-ltb}
-use lib.Dec.{eqb, leb, ltb}
-use lib.ListN.{length}
+use lib.Dec.{eqb, ltb}
 use Rattle.records.specs.declared.tests.Verdict.{Verdict}
 use Rattle.records.specs.declared.steps.Step.{Step}
 use Rattle.records.specs.Clause.{holds}
-use Rattle.records.specs.Table.{records}
-use Rattle.records.specs.Step.{stepCount}
 use Rattle.records.specs.Tests.{Test, test, firstFailed, refused, tableTests, roomTests, stepTests, rootTests}
 
 -- every test of the list passed

@@ -9,7 +9,7 @@ use Rattle.records.specs.Clause.{has, resolvedInto}
 use Rattle.records.specs.Table.{recordAt, records, firstEmpty, literalsOf}
 use Rattle.records.specs.Step.{StepRead}
 use Rattle.records.specs.Tests.{firstFailed, tableTests, roomTests, Says}
-use Rattle.records.specs.Derivation.{Outcome, derived, Derives}
+use Rattle.records.specs.Derivation.{derived, Derives}
 
 -- what equals the same is equal
 same : {A : Type 0} {x y z : A} → x ≡ z → y ≡ z → x ≡ y

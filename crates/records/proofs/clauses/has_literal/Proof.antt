@@ -1,5 +1,5 @@
 -- `records::clauses::has_literal` meets its contract: each arm tests one bit by its mask. Assumes nothing.
-use Prim.Native.Nat.{ℕ, _%_, _≤_, _<_}
+use Prim.Native.Nat.{ℕ, _≤_, _<_}
 use native.Mathlib.Nat.{mod-lt}
 use lib.Dec.{lit<}
 use mathlib.Core.Path.{_≡_, sym}

@@ -4,18 +4,13 @@ use Rattle.records.proofs.ClauseLaws.{mask-takenOut}
 use borrow.Author.Needs.{needs}
 use Rattle.records.proofs.clauses.take_out.Statement.{statement}
 use Rattle.records.proofs.clauses.take_out.Tie as tie
-use Rattle.records.proofs.clauses.take_out.Reads as reads
-use Rattle.records.proofs.clauses.take_out.Lts as lts
 
--- src/clauses.rt:34:15
 cast-bit : tie.Need-cast-bit
 cast-bit c = search needs
 
--- src/clauses.rt:35:14
 shl-result : tie.Need-shl-result
 shl-result c = search needs
 
--- src/clauses.rt:30:1
 returns : tie.Need-returns
 returns c = mask-takenOut _ _ (omega arith) (omega arith)
 

@@ -7,48 +7,51 @@ use Rattle.records.proofs.InsideLaws.{sized-by}
 use borrow.Author.Needs.{needs}
 use Rattle.records.proofs.derivation.derive.Statement.{statement}
 use Rattle.records.proofs.derivation.derive.Tie as tie
-use Rattle.records.proofs.derivation.derive.Reads as reads
-use Rattle.records.proofs.derivation.derive.Lts as lts
-use Rattle.records.proofs.derivation.derive_halves.Reads as derive-halves-reads
-use Rattle.records.proofs.tests.test_room.Reads as test-room-reads
-use Rattle.records.proofs.tests.test_tables.Reads as test-tables-reads
 
--- src/derivation.rt:205:9
 test-tables-requires : tie.Need-test-tables-requires
 test-tables-requires c κs = search needs
 
--- src/derivation.rt:208:9
 returns : tie.Need-returns
 unfolding derived
-returns c = derives-refused _ _ _ (judged-says _ _ _ ((c .before .test-tables) .ensures)) _ ((c .if1) .taken)
+returns c =
+    let test-tables = c .before .test-tables in
+    derives-refused _ _ _ (judged-says _ _ _ (test-tables .ensures)) _ (c .if1 .taken)
 
--- src/derivation.rt:210:9
 test-room-requires : tie.Need-test-room-requires
 test-room-requires c κs = search needs
 
--- src/derivation.rt:213:9
 same-length : tie.Need-same-length
 same-length c = search needs
 
--- src/derivation.rt:213:9
 returns-2 : tie.Need-returns-2
 unfolding derived
-returns-2 c = derives-next _ _ _ (judged-says _ _ _ ((c .before .before .before .before .test-tables) .ensures)) _ ((c .before .before .before .if1) .left) _ _ (derives-refused _ _ _ (judged-says _ _ _ ((c .before .test-room) .ensures)) _ ((c .if2) .taken))
+returns-2 c =
+    let test-tables = c .before .before .before .before .test-tables in
+    let if1 = c .before .before .before .if1 in
+    let test-room = c .before .test-room in
+    derives-next _ _ _ (judged-says _ _ _ (test-tables .ensures)) _ (if1 .left) _ _ (derives-refused _ _ _ (judged-says _ _ _ (test-room .ensures)) _ (c .if2 .taken))
 
--- src/derivation.rt:215:5
 derive-halves-requires : tie.Need-derive-halves-requires
-derive-halves-requires c κs = sized-by 32 1024 _ _ _ _ (omega arith) (omega arith) (omega arith) (sym ((c .before .before .before .before .before .test-tables) .ensures .number) ∙ (c .before .before .before .before .if1) .left) (sym ((c .before .before .test-room) .ensures .number) ∙ (c .before .if2) .left)
+derive-halves-requires c κs =
+    let test-tables = c .before .before .before .before .before .test-tables in
+    let if1 = c .before .before .before .before .if1 in
+    let test-room = c .before .before .test-room in
+    let if2 = c .before .if2 in
+    sized-by 32 1024 _ _ _ _ (omega arith) (omega arith) (omega arith) (sym (test-tables .ensures .number) ∙ if1 .left) (sym (test-room .ensures .number) ∙ if2 .left)
 
--- src/derivation.rt:202:1
 same-length-2 : tie.Need-same-length-2
 same-length-2 c = search needs
 
--- src/derivation.rt:202:1
 returns-3 : tie.Need-returns-3
 unfolding derived
 returns-3 c =
-    derives-next _ _ _ (judged-says _ _ _ ((c .before .before .before .before .before .before .before .before .test-tables) .ensures)) _ ((c .before .before .before .before .before .before .before .if1) .left) _ _
-    (derives-next _ _ _ (judged-says _ _ _ ((c .before .before .before .before .before .test-room) .ensures)) _ ((c .before .before .before .before .if2) .left) _ _ ((c .before .before .derive-halves) .ensures))
+    let test-tables = c .before .before .before .before .before .before .before .before .test-tables in
+    let if1 = c .before .before .before .before .before .before .before .if1 in
+    let test-room = c .before .before .before .before .before .test-room in
+    let if2 = c .before .before .before .before .if2 in
+    let derive-halves = c .before .before .derive-halves in
+    derives-next _ _ _ (judged-says _ _ _ (test-tables .ensures)) _ (if1 .left) _ _
+    (derives-next _ _ _ (judged-says _ _ _ (test-room .ensures)) _ (if2 .left) _ _ (derive-halves .ensures))
 
 pub derive-spec : {M : Type 1} → statement M
 derive-spec =

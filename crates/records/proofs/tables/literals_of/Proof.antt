@@ -7,20 +7,14 @@ use Rattle.records.specs.Clause.{bytesOf}
 use borrow.Author.Needs.{needs}
 use Rattle.records.proofs.tables.literals_of.Statement.{statement}
 use Rattle.records.proofs.tables.literals_of.Tie as tie
-use Rattle.records.proofs.tables.literals_of.Reads as reads
-use Rattle.records.proofs.tables.literals_of.Lts as lts
-use Rattle.records.proofs.tables.join_all.Reads as join-all-reads
 
--- src/tables.rt:103:25
 slice-aggregate-join-all : tie.Need-slice-aggregate-join-all
 slice-aggregate-join-all c = search needs
 
--- src/tables.rt:103:5
 join-all-requires : tie.Need-join-all-requires
 unfolding bytesOf tabulate numberOf
 join-all-requires c κs = (omega arith, omega arith, refl)
 
--- src/tables.rt:99:1
 returns : tie.Need-returns
 returns c = search needs
 
