@@ -14,14 +14,14 @@ use Rattle.records.specs.Clause.{holds, empty}
 use Rattle.records.specs.Table.{recordAt, records, occurs}
 use Rattle.records.specs.Step.{stepAt, stepCount}
 use Rattle.records.specs.Tests.{firstFailed, refused, tableTests, roomTests, stepTests, rootTests}
-use Rattle.records.specs.Derivation.{inputs, clauseAt, workAfter, verdictAt, stopAt, stepsVerdict, rootOf, Outcome, judged, andThen, ran, rooted, derived, ByRule, clauseCount, lastWork, Sizes}
+use Rattle.records.specs.Derivation.{inputs, clauseAt, workAfter, verdictAt, stopAt, stepsVerdict, rootOf, Outcome, judged, andThen, ran, rooted, derived, ByRule, Derivation, clauseCount, lastWork, Sizes}
 use Rattle.records.proofs.NumberLaws.{strong, in-parts}
 use Rattle.records.proofs.ListLaws.{first-le, first-holds, first-before, first-found}
 use Rattle.records.proofs.ClauseLaws.{holds-bound, holds-resolvent}
 use Rattle.records.proofs.TableLaws.{occurs-here}
 use Rattle.records.proofs.TestLaws.{passed-none, none-passed, refused-not, not-refused, tables-numbered, room-numbered, step-numbered, root-numbered}
 use Rattle.records.proofs.DerivationLaws.{clause-a, clause-b, ends-at, verdict-stopped, verdict-ended}
-use Rattle.records.proofs.WorkLaws.{clause-kept, result-is, resultOf}
+use Rattle.records.proofs.WorkLaws.{clause-kept, result-is}
 use Rattle.records.proofs.MeaningLaws.{empty-holds}
 
 and-both : (x y : Bool) → (x && y) ≡ true → (x ≡ true) × (y ≡ true)
@@ -79,19 +79,29 @@ module _ (h : ℕ) (a b : List ℕ) (step : ℕ → Step) (work : List ℕ) (s :
       absurd (true≢false (sym (t .3) ∙ refused-not (verdictAt h a b step work (t .0)) none)))
       stop-cases
 
-  -- where all run, every step is by the rule over the clauses before it
-  pub good-steps : stopAt h a b step work s ≡ s → (i : ℕ) → i < s → ByRule h (clauseAt h a b (workAfter h a b step work i)) (inputs h a b + i) (step i)
+  -- up to the stop every step is by the rule over the clauses before it
+  pub good-steps : (i : ℕ) → i < stopAt h a b step work s → ByRule h (clauseAt h a b (workAfter h a b step work i)) (inputs h a b + i) (step i)
   unfolding stopAt verdictAt
-  good-steps e i l =
+  good-steps i l =
       by-rule h (clauseAt h a b (workAfter h a b step work i)) (inputs h a b + i) i (step i)
-      (first-before (λ i. refused (verdictAt h a b step work i)) s i (omega arith))
+      (first-before (λ i. refused (verdictAt h a b step work i)) s i l)
+
+  stop-le : stopAt h a b step work s ≤ s
+  unfolding stopAt
+  stop-le = first-le (λ i. refused (verdictAt h a b step work i)) s
 
   module _ (room : 2 * h * s ≤ length work) where
-    -- and over the clauses at the end
-    pub good-steps-last : stopAt h a b step work s ≡ s → (i : ℕ) → i < s → ByRule h (clauseAt h a b (workAfter h a b step work s)) (inputs h a b + i) (step i)
-    good-steps-last e i l =
-        rule-over h (clauseAt h a b (workAfter h a b step work i)) (clauseAt h a b (workAfter h a b step work s)) (inputs h a b + i) (step i)
-        (λ n m. sym (clause-kept h a b step work s room n i s m (omega arith) (omega arith))) (good-steps e i l)
+    -- and what they leave in the work table is a derivation, also where a later step is refused
+    pub derivation : (m : ℕ) → m ≤ stopAt h a b step work s → Derivation h a b (workAfter h a b step work m) step m
+    derivation m l =
+        record {
+          by-rule = λ i q.
+              rule-over h (clauseAt h a b (workAfter h a b step work i)) (clauseAt h a b (workAfter h a b step work m)) (inputs h a b + i) (step i)
+              (λ n k. sym (clause-kept h a b step work s room n i m k (omega arith) (omega (arith, stop-le)))) (good-steps i (omega arith));
+          result = λ i q.
+              let rule = good-steps i (omega arith) in
+              result-is h a b step work s room i m q (omega (arith, stop-le)) (rule .left-earlier) (rule .right-earlier);
+        }
 
     -- steps that are by the rule over the clauses at the end all run
     pub good-steps-run : ((i : ℕ) → i < s → ByRule h (clauseAt h a b (workAfter h a b step work s)) (inputs h a b + i) (step i)) → stopAt h a b step work s ≡ s
@@ -115,9 +125,7 @@ record Complete (h most : ℕ) (a b steps work : List ℕ) : Type 0 where
 pub record Accepted (h most : ℕ) (a b steps work : List ℕ) : Type 0 where
   pub sizes : Sizes h most a b steps work
   pub work-is : derived h most a b steps work .work ≡ lastWork h a b steps work
-  pub by-rule : (i : ℕ) → i < stepCount steps → ByRule h (clauseAt h a b (derived h most a b steps work .work)) (inputs h a b + i) (stepAt steps i)
-  pub result : (i : ℕ) → i < stepCount steps
-      → clauseAt h a b (derived h most a b steps work .work) (inputs h a b + i) ≡ resultOf h a b (derived h most a b steps work .work) (stepAt steps i)
+  pub derivation-is : Derivation h a b (derived h most a b steps work .work) (stepAt steps) (stepCount steps)
   pub root-in : derived h most a b steps work .place < clauseCount h a b steps
   pub root-empty : empty (clauseAt h a b (derived h most a b steps work .work) (derived h most a b steps work .place)) ≡ true
   pub root-first : (k : ℕ) → k < derived h most a b steps work .place → empty (clauseAt h a b (derived h most a b steps work .work) k) ≡ false
@@ -190,15 +198,11 @@ module _ (h most : ℕ) (a b steps work : List ℕ) where
   acceptance e =
       let c = zero-needs e in
       let end = zero-by c in
-      let rules = good-steps-last h a b (stepAt steps) work (stepCount steps) (c .sizes .room) (c .ended) in
       let none : ℕ → Bool = λ k. empty (clauseAt h a b (lastWork h a b steps work) k) in
       record {
         sizes = c .sizes;
         work-is = rw end refl;
-        by-rule = rw end rules;
-        result =
-            rw end
-            (λ i l. result-is h a b (stepAt steps) work (stepCount steps) (c .sizes .room) i (stepCount steps) l (omega arith) (rules i l .left-earlier) (rules i l .right-earlier));
+        derivation-is = rw end (derivation h a b (stepAt steps) work (stepCount steps) (c .sizes .room) (stepCount steps) (omega (arith, c .ended)));
         root-in = rw end (c .found);
         root-empty = rw end (first-holds none (clauseCount h a b steps) (c .found));
         root-first = rw end (first-before none (clauseCount h a b steps));
@@ -236,19 +240,17 @@ from-side true y z w e = inl refl
 from-side false y true w e = inr refl
 from-side false y false w e = absurd (false≢true e)
 
-module _ (h most : ℕ) (a b steps work : List ℕ) (accepted : Accepted h most a b steps work) where
-  pub root-without-literal : (sign : Bool) (v : ℕ) → holds h (clauseAt h a b (derived h most a b steps work .work) (derived h most a b steps work .place)) sign v ≡ false
-  root-without-literal sign v =
-      empty-holds h (clauseAt h a b (derived h most a b steps work .work) (derived h most a b steps work .place)) sign v (accepted .root-empty)
+-- the root of an accepted derivation holds no literal
+pub root-without-literal : (h most : ℕ) (a b steps work : List ℕ) → Accepted h most a b steps work
+    → (sign : Bool) (v : ℕ) → holds h (clauseAt h a b (derived h most a b steps work .work) (derived h most a b steps work .place)) sign v ≡ false
+root-without-literal h most a b steps work accepted sign v =
+    empty-holds h (clauseAt h a b (derived h most a b steps work .work) (derived h most a b steps work .place)) sign v (accepted .root-empty)
 
-  -- every literal of every clause comes from a clause of A or of B
-  pub literal-origin : (sign : Bool) (v n : ℕ) → n < clauseCount h a b steps → holds h (clauseAt h a b (derived h most a b steps work .work) n) sign v ≡ true
-      → HeldIn h a sign v ⊎ HeldIn h b sign v
+module _ (h : ℕ) (a b last : List ℕ) (step : ℕ → Step) (s : ℕ) (given : Derivation h a b last step s) where
+  -- every literal of a derived clause comes from a clause of A or of B
+  pub literal-origin : (sign : Bool) (v n : ℕ) → n < inputs h a b + s → holds h (clauseAt h a b last n) sign v ≡ true → HeldIn h a sign v ⊎ HeldIn h b sign v
   literal-origin sign v = strong Known next
     where
-      last : List ℕ
-      last = derived h most a b steps work .work
-
       From : ℕ → Type 0
       From n = holds h (clauseAt h a b last n) sign v ≡ true → HeldIn h a sign v ⊎ HeldIn h b sign v
 
@@ -259,23 +261,21 @@ module _ (h most : ℕ) (a b steps work : List ℕ) (accepted : Accepted h most 
           (λ r m e. let l : r < records (2 * h) b = omega arith in inr (r, l, rw (clause-b h a b last r l) at e))
 
       Known : ℕ → Type 0
-      Known n = n < clauseCount h a b steps → From n
+      Known n = n < inputs h a b + s → From n
 
       result : (i : ℕ) → ((m : ℕ) → m < inputs h a b + i → Known m) → Known (inputs h a b + i)
       result i earlier l e =
-          let rule = accepted .by-rule i (omega arith) in
-          let at = stepAt steps i in
-          let small = holds-bound h (clauseAt h a b last (at .left)) true (at .pivot) (rule .left-holds) in
-          ⊎-elim (earlier (at .left) (rule .left-earlier) (omega arith)) (earlier (at .right) (rule .right-earlier) (omega arith))
+          let rule = given .by-rule i (omega arith) in
+          let small = holds-bound h (clauseAt h a b last (step i .left)) true (step i .pivot) (rule .left-holds) in
+          ⊎-elim (earlier (step i .left) (rule .left-earlier) (omega arith)) (earlier (step i .right) (rule .right-earlier) (omega arith))
           (from-side _ _ _ _
-          (sym (holds-resolvent h (clauseAt h a b last (at .left)) (clauseAt h a b last (at .right)) (at .pivot) sign v small)
-          ∙ (rw (accepted .result i (omega arith)) at e)))
+          (sym (holds-resolvent h (clauseAt h a b last (step i .left)) (clauseAt h a b last (step i .right)) (step i .pivot) sign v small)
+          ∙ (rw (given .result i (omega arith)) at e)))
 
       next : (n : ℕ) → ((m : ℕ) → m < n → Known m) → Known n
       next = in-parts (λ (n : ℕ). ((m : ℕ) → m < n → Known m) → Known n) (inputs h a b) (λ n q earlier l. input n q) result
 
   -- so its variable occurs in A or in B
-  pub literal-occurs : (sign : Bool) (v n : ℕ) → n < clauseCount h a b steps → holds h (clauseAt h a b (derived h most a b steps work .work) n) sign v ≡ true
-      → (occurs h a v ≡ true) ⊎ (occurs h b v ≡ true)
+  pub literal-occurs : (sign : Bool) (v n : ℕ) → n < inputs h a b + s → holds h (clauseAt h a b last n) sign v ≡ true → (occurs h a v ≡ true) ⊎ (occurs h b v ≡ true)
   literal-occurs sign v n l e =
       ⊎-map (λ o. occurs-here h a (o .0) sign v (o .1) (o .2)) (λ o. occurs-here h b (o .0) sign v (o .1) (o .2)) (literal-origin sign v n l e)

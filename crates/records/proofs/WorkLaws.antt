@@ -9,9 +9,8 @@ use native.Mathlib.Omega.{arith}
 use borrow.Author.Tests.{lt-ltb}
 use lib.ListN.{length, drop}
 use Rattle.records.specs.declared.steps.Step.{Step}
-use Rattle.records.specs.Clause.{resolvent}
 use Rattle.records.specs.Table.{recordAt}
-use Rattle.records.specs.Derivation.{inputs, clauseAt, stored, workAfter}
+use Rattle.records.specs.Derivation.{inputs, clauseAt, resultOf, stored, workAfter}
 use Rattle.records.proofs.NumberLaws.{in-parts}
 use Rattle.records.proofs.ClauseLaws.{length-resolvent}
 use Rattle.records.proofs.TableLaws.{within, length-put, recordAt-put-same, recordAt-put-earlier, drop-put}
@@ -21,10 +20,6 @@ use Rattle.records.proofs.DerivationLaws.{clause-result}
 pub clause-input : (h : ℕ) (a b work other : List ℕ) (n : ℕ) → n < inputs h a b → clauseAt h a b work n ≡ clauseAt h a b other n
 unfolding clauseAt
 clause-input h a b work other n l = rw (lt-ltb n (inputs h a b) l) refl
-
--- the result of a step, by the clauses of a work table
-abbrev pub resultOf : ℕ → List ℕ → List ℕ → List ℕ → Step → List ℕ
-resultOf h a b work s = resolvent h (clauseAt h a b work (s .left)) (clauseAt h a b work (s .right)) (s .pivot)
 
 length-result : (h : ℕ) (a b work : List ℕ) (s : Step) → length (resultOf h a b work s) ≡ 2 * h
 length-result h a b work s = length-resolvent h (clauseAt h a b work (s .left)) (clauseAt h a b work (s .right)) (s .pivot)

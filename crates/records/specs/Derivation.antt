@@ -23,10 +23,13 @@ clauseAt h a b work n =
     cond (ltb n (records (2 * h) a)) (recordAt (2 * h) a n)
     (cond (ltb n (inputs h a b)) (recordAt (2 * h) b (n - records (2 * h) a)) (recordAt (2 * h) work (n - inputs h a b)))
 
--- "each resolvent goes straight into its own record of the work table, record i for step i": the table after step i = s
+-- the result of a step, by the clauses of a work table
+abbrev pub resultOf : ℕ → List ℕ → List ℕ → List ℕ → Step → List ℕ
+resultOf h a b work s = resolvent h (clauseAt h a b work (s .left)) (clauseAt h a b work (s .right)) (s .pivot)
+
+-- "each resolvent goes straight into its own record of the work table, record i for step i": the work table once step i, which is s, is done
 unfoldable pub stored : ℕ → List ℕ → List ℕ → Step → ℕ → List ℕ → List ℕ
-stored h a b s i work =
-    put (2 * h) work i (resolvent h (clauseAt h a b work (s .left)) (clauseAt h a b work (s .right)) (s .pivot))
+stored h a b s i work = put (2 * h) work i (resultOf h a b work s)
 
 -- the work table after the first i steps
 unfoldable pub workAfter : ℕ → List ℕ → List ℕ → (ℕ → Step) → List ℕ → ℕ → List ℕ
@@ -96,6 +99,11 @@ pub record ByRule (h : ℕ) (clause : ℕ → List ℕ) (own : ℕ) (s : Step) :
   pub right-earlier : s .right < own
   pub left-holds : holds h (clause (s .left)) true (s .pivot) ≡ true
   pub right-holds : holds h (clause (s .right)) false (s .pivot) ≡ true
+
+-- over the work table last the first s results are derived: each step is by the rule, and its clause is its result
+pub record Derivation (h : ℕ) (a b last : List ℕ) (step : ℕ → Step) (s : ℕ) : Type 0 where
+  pub by-rule : (i : ℕ) → i < s → ByRule h (clauseAt h a b last) (inputs h a b + i) (step i)
+  pub result : (i : ℕ) → i < s → clauseAt h a b last (inputs h a b + i) ≡ resultOf h a b last (step i)
 
 -- how many clauses there are, results counted, and the work table after all steps
 abbrev pub clauseCount : ℕ → List ℕ → List ℕ → List ℕ → ℕ
