@@ -139,9 +139,9 @@ sequence o next e = go (eqb (o .number) 0) refl e
     go true q f = (eqb-true (o .number) 0 q, f)
     go false q f = absurd (eqb-false (o .number) 0 q f)
 
-root-found : (h : ℕ) (a b : List ℕ) (s : ℕ) (work : List ℕ) → rooted h a b s work .number ≡ 0 → rootOf h a b work (inputs h a b + s) < inputs h a b + s
+root-below : (h : ℕ) (a b : List ℕ) (s : ℕ) (work : List ℕ) → rooted h a b s work .number ≡ 0 → rootOf h a b work (inputs h a b + s) < inputs h a b + s
 unfolding rooted rootTests
-root-found h a b s work e =
+root-below h a b s work e =
     let root = rootOf h a b work (inputs h a b + s) in
     let passed = sequence (judged (firstFailed (rootTests root (inputs h a b + s))) work) (judged (record { number = 0; place = root })) e .0 in
     ltb-true root (inputs h a b + s) (none-passed 0 (rootTests root (inputs h a b + s)) (root-numbered root (inputs h a b + s)) passed .0)
@@ -174,7 +174,7 @@ module _ (h most : ℕ) (a b steps work : List ℕ) where
               room = leb-true (2 * h * stepCount steps) (length work) (enough .0);
             };
         ended = all;
-        found = root-found h a b (stepCount steps) (lastWork h a b steps work) (rw all at (third .1));
+        found = root-below h a b (stepCount steps) (lastWork h a b steps work) (rw all at (third .1));
       }
 
   zero-by : Complete h most a b steps work

@@ -1,10 +1,10 @@
 -- The laws of clause records: which literals a record holds that is made of a set of them, and that a record is its literals.
 use Prim.Native.Nat.{ℕ, zero, suc, _+_, _-_, _*_, _/_, _%_, _^_, _≤_, _<_}
-use mathlib.Core.Path.{_≡_, refl, sym, ap, ap₂, _∙_}
+use mathlib.Core.Path.{_≡_, refl, sym, ap, ap₂, subst, _∙_}
 use mathlib.Core.Bool.{Bool, true, false, not, _&&_, _||_, true≢false, and-false, and-true, cond}
 use mathlib.Core.List.{List, [], _∷_}
 use native.Mathlib.Nat.{lt-of-le-of-lt, lt-irrefl}
-use native.Mathlib.Decide.{ℕ-discrete}
+use native.Mathlib.Decide.{ℕ-discrete, decLt}
 use native.Mathlib.Omega.{arith}
 use borrow.Author.Tests.{eq-eqb, ne-eqb, eqb-true, eqb-false, lt-ltb, le-ltb, ltb-true, ltb-false}
 use borrow.Author.Count.{below-more}
@@ -15,7 +15,8 @@ use lib.Pow.{pow-lt}
 use lib.Bits.{bitAnd, bitOr, and-le-l, or-lt}
 use Rattle.records.specs.Bits.{bitOf, numberOf}
 use Rattle.records.specs.Lists.{every}
-use Rattle.records.specs.Clause.{has, literal, holds, bytesOf, without, resolved, resolvent, joined, takenOut, resolvedInto, empty}
+use Rattle.records.specs.Clause.{has, literal, holds, bytesOf, without, resolved, resolvent, resolvedInto, empty}
+use Rattle.records.specs.Inside.{allBut, joined}
 use Rattle.records.proofs.BitLaws.{bit-and, bit-or, bit-numberOf, numberOf-lt, numberOf-same, bits-ext, zero-bit, bit-not, bit-pow, test-bit}
 use Rattle.records.proofs.ListLaws.{length-tabulate, getD-tabulate}
 
@@ -86,25 +87,23 @@ pub mask-has : (r : List ℕ) (l k : ℕ) → l % 8 ≡ k → not (eqb (bitAnd (
 unfolding has
 mask-has r l k e = test-bit (getD r (l / 8) 0) k ∙ ap (bitOf (getD r (l / 8) 0)) (sym e)
 
--- a byte without a bit, by a mask
-pub mask-takenOut : (byte k : ℕ) → k < 8 → byte < 256 → bitAnd byte (255 - 1 * 2 ^ k % 256) ≡ takenOut byte k
-unfolding takenOut
-mask-takenOut byte k l small =
+-- the mask of every bit but one
+pub all-but-mask : (k : ℕ) → k < 8 → 255 - 1 * 2 ^ k % 256 ≡ allBut k
+unfolding allBut
+all-but-mask k l =
     let power : 2 ^ k < 2 ^ 8 = pow-lt {j = 8} (omega arith) in
     let plain : 1 * 2 ^ k % 256 ≡ 2 ^ k = omega arith in
     rw plain
-    (bits-ext 8 (bitAnd byte (255 - 2 ^ k)) (numberOf 8 (λ j. bitOf byte j && not (eqb j k)))
-    (lt-of-le-of-lt (and-le-l byte (255 - 2 ^ k)) small) (numberOf-lt 8 (λ j. bitOf byte j && not (eqb j k)))
-    (λ j m. bit-and byte (255 - 2 ^ k) j ∙ ap (λ (b : Bool). bitOf byte j && b) (bit-not 8 (2 ^ k) j power m ∙ ap not (bit-pow k j))
-    ∙ sym (bit-numberOf 8 (λ j. bitOf byte j && not (eqb j k)) j m)))
+    (bits-ext 8 (255 - 2 ^ k) (numberOf 8 (λ j. not (eqb j k))) (omega arith) (numberOf-lt 8 (λ j. not (eqb j k)))
+    (λ j m. bit-not 8 (2 ^ k) j power m ∙ ap not (bit-pow k j) ∙ sym (bit-numberOf 8 (λ j. not (eqb j k)) j m)))
 
-pub takenOut-lt : (byte k : ℕ) → takenOut byte k < 256
-unfolding takenOut
-takenOut-lt byte k = numberOf-lt 8 (λ j. bitOf byte j && not (eqb j k))
+-- a byte without its bit k, by that mask
+pub masked-lt : (byte k : ℕ) → byte < 256 → bitAnd byte (allBut k) < 256
+masked-lt byte k small = lt-of-le-of-lt (and-le-l byte (allBut k)) small
 
-pub bit-takenOut : (byte k j : ℕ) → j < 8 → bitOf (takenOut byte k) j ≡ (bitOf byte j && not (eqb j k))
-unfolding takenOut
-bit-takenOut byte k j l = bit-numberOf 8 (λ j. bitOf byte j && not (eqb j k)) j l
+pub bit-masked : (byte k j : ℕ) → j < 8 → bitOf (bitAnd byte (allBut k)) j ≡ (bitOf byte j && not (eqb j k))
+unfolding allBut
+bit-masked byte k j l = bit-and byte (allBut k) j ∙ ap (λ (b : Bool). bitOf byte j && b) (bit-numberOf 8 (λ j. not (eqb j k)) j l)
 
 -- the empty clause: its bytes are zero, so it holds no literal; and a record that holds none is empty
 pub empty-is : (r : List ℕ) → ((i : ℕ) → i < length r → getD r i 0 ≡ 0) → empty r ≡ true
@@ -194,6 +193,20 @@ pub literal-bound : (h : ℕ) (sign : Bool) (v : ℕ) → v < 8 * h → literal 
 literal-bound h true v l = omega arith
 literal-bound h false v l = omega arith
 
+-- records with the same literals are the same bytes
+pub same-literals : (h : ℕ) (a b : List ℕ) → length a ≡ 2 * h → length b ≡ 2 * h → Bytes a → Bytes b
+    → ((sign : Bool) (v : ℕ) → holds h a sign v ≡ holds h b sign v) → a ≡ b
+same-literals h a b ea eb ha hb same = record-ext a b (ea ∙ sym eb) ha hb (λ l m. at l (decLt l (8 * h)) (omega arith))
+  where
+    by-sign : (sign : Bool) (v : ℕ) → v < 8 * h → has a (literal h sign v) ≡ has b (literal h sign v)
+    by-sign sign v l = sym (holds-has h a sign v l) ∙ same sign v ∙ holds-has h b sign v l
+
+    at : (l : ℕ) → Dec (l < 8 * h) → l < 16 * h → has a l ≡ has b l
+    at l (yes q) m = by-sign true l q
+    at l (no q) m =
+        let e : 8 * h + (l - 8 * h) ≡ l = omega arith in
+        subst (λ (x : ℕ). has a x ≡ has b x) e (by-sign false (l - 8 * h) (omega arith))
+
 -- the resolvent: its length, its bits, and which literals it holds
 pub length-resolvent : (h : ℕ) (left right : List ℕ) (p : ℕ) → length (resolvent h left right p) ≡ 2 * h
 unfolding resolvent
@@ -222,10 +235,10 @@ same-test a b c d f g = go (eqb a b) refl
 -- the resolvent as the code makes it: all bytes joined, and the pivot's byte of each half written anew without the pivot's bit on its side
 module _ (h : ℕ) (left right : List ℕ) (p : ℕ) (small : p < 8 * h) (l-bytes : Bytes left) (r-bytes : Bytes right) where
   abbrev positive : ℕ
-  positive = bitOr (takenOut (getD left (p / 8) 0) (p % 8)) (getD right (p / 8) 0)
+  positive = bitOr (bitAnd (getD left (p / 8) 0) (allBut (p % 8))) (getD right (p / 8) 0)
 
   abbrev negative : ℕ
-  negative = bitOr (getD left (h + p / 8) 0) (takenOut (getD right (h + p / 8) 0) (p % 8))
+  negative = bitOr (getD left (h + p / 8) 0) (bitAnd (getD right (h + p / 8) 0) (allBut (p % 8)))
 
   -- byte i of the resolvent is x
   abbrev IsByte : ℕ → ℕ → Type 0
@@ -241,11 +254,11 @@ module _ (h : ℕ) (left right : List ℕ) (p : ℕ) (small : p < 8 * h) (l-byte
 
   positive-byte : IsByte (p / 8) positive
   positive-byte = (
-    or-lt 8 (takenOut (getD left (p / 8) 0) (p % 8)) (getD right (p / 8) 0) (takenOut-lt (getD left (p / 8) 0) (p % 8)) (r-bytes (p / 8)),
+    or-lt 8 (bitAnd (getD left (p / 8) 0) (allBut (p % 8))) (getD right (p / 8) 0) (masked-lt (getD left (p / 8) 0) (p % 8) (l-bytes (p / 8))) (r-bytes (p / 8)),
     λ k m.
         rw (
-          bit-or (takenOut (getD left (p / 8) 0) (p % 8)) (getD right (p / 8) 0) k,
-          bit-takenOut (getD left (p / 8) 0) (p % 8) k m,
+          bit-or (bitAnd (getD left (p / 8) 0) (allBut (p % 8))) (getD right (p / 8) 0) k,
+          bit-masked (getD left (p / 8) 0) (p % 8) k m,
           has-at left (p / 8) k m,
           has-at right (p / 8) k m,
           same-test (8 * (p / 8) + k) p k (p % 8) (λ q. omega arith) (λ q. omega arith),
@@ -256,11 +269,11 @@ module _ (h : ℕ) (left right : List ℕ) (p : ℕ) (small : p < 8 * h) (l-byte
 
   negative-byte : IsByte (h + p / 8) negative
   negative-byte = (
-    or-lt 8 (getD left (h + p / 8) 0) (takenOut (getD right (h + p / 8) 0) (p % 8)) (l-bytes (h + p / 8)) (takenOut-lt (getD right (h + p / 8) 0) (p % 8)),
+    or-lt 8 (getD left (h + p / 8) 0) (bitAnd (getD right (h + p / 8) 0) (allBut (p % 8))) (l-bytes (h + p / 8)) (masked-lt (getD right (h + p / 8) 0) (p % 8) (r-bytes (h + p / 8))),
     λ k m.
         rw (
-          bit-or (getD left (h + p / 8) 0) (takenOut (getD right (h + p / 8) 0) (p % 8)) k,
-          bit-takenOut (getD right (h + p / 8) 0) (p % 8) k m,
+          bit-or (getD left (h + p / 8) 0) (bitAnd (getD right (h + p / 8) 0) (allBut (p % 8))) k,
+          bit-masked (getD right (h + p / 8) 0) (p % 8) k m,
           has-at left (h + p / 8) k m,
           has-at right (h + p / 8) k m,
           ne-eqb (8 * (h + p / 8) + k) p (λ q. lt-irrefl p (omega arith)),

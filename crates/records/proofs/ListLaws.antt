@@ -125,7 +125,7 @@ some-snoc p n f = ap (λ (m : ℕ). some p (tabulate m f)) (add-one n) ∙ go p 
     go p zero f = or-false (p (f 0))
     go p (suc n) f = ap (λ (b : Bool). p (f 0) || b) (go p n (λ i. f (suc i))) ∙ sym (or-assoc (p (f 0)) (some p (tabulate n (λ i. f (suc i)))) (p (f (suc n))))
 
--- a bool that is not true is false
+-- two tests that are true together are equal
 pub by-truth : (x y : Bool) → (x ≡ true → y ≡ true) → (y ≡ true → x ≡ true) → x ≡ y
 by-truth true y f g = sym (f refl)
 by-truth false true f g = g refl

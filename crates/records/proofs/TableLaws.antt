@@ -12,7 +12,8 @@ use borrow.Author.Tests.{le-leb, lt-leb}
 use lib.ListN.{length, getD, take, drop, take-append-drop, length-append, length-drop, List·getD-append, List·getD-eq-default}
 use lib.Seq.{getD-take, getD-drop, length-take-le, ext-getD, take-at, drop-at, drop-drop}
 use Rattle.records.specs.Lists.{tabulate, some, every}
-use Rattle.records.specs.Clause.{has, literal, holds, bytesOf, joined, empty}
+use Rattle.records.specs.Clause.{has, literal, holds, bytesOf, empty}
+use Rattle.records.specs.Inside.{joined}
 use Rattle.records.specs.Table.{recordAt, records, put, firstEmpty, clausesOf, occurs, literalsOf}
 use Rattle.records.proofs.ListLaws.{first-le, some-here, some-where, some-snoc, every-at, by-truth}
 use Rattle.records.proofs.ClauseLaws.{Bytes, has-bytesOf, bytesOf-below, joined-bytesOf, holds-has, holds-bound, literal-bound, empty-is, empty-not}
@@ -82,7 +83,7 @@ record-not-empty w t r i h l n = empty-not (recordAt w t r) i (λ e. n (sym (byt
 
 pub firstEmpty-le : (w : ℕ) (t : List ℕ) (n : ℕ) → firstEmpty w t n ≤ n
 unfolding firstEmpty
-firstEmpty-le w t n = first-le (λ r. empty (recordAt w t r)) n
+firstEmpty-le w t n = omega (arith, first-le (λ r. empty (recordAt w t r)) n)
 
 -- a table of bytes has records of bytes
 pub bytes-recordAt : (w : ℕ) (t : List ℕ) (r : ℕ) → Bytes t → Bytes (recordAt w t r)
@@ -144,7 +145,7 @@ drop-put w t i new n h e l =
     ∙ ap (drop (n - w * i - w)) (drop-at new (drop w (drop (w * i) t)) w e)
     ∙ drop-drop (n - w * i - w) w (drop (w * i) t) ∙ drop-drop (w + (n - w * i - w)) (w * i) t)
 
--- a record that is written is whole: the store as the code makes it, by the part from start to start + w
+-- the store as the code makes it, by the part from start to start + w
 pub put-part : (w : ℕ) (t : List ℕ) (i : ℕ) (new : List ℕ) (start : ℕ) → start ≡ w * i
     → take start t ++ (new ++ drop (start + w - start) (drop start t)) ≡ put w t i new
 unfolding put

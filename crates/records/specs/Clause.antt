@@ -3,7 +3,6 @@ use Prim.Native.Nat.{ℕ, _+_, _*_, _/_, _%_}
 use mathlib.Core.Bool.{Bool, true, false, not, _&&_, _||_, cond}
 use mathlib.Core.List.{List}
 use lib.ListN.{length, getD}
-use lib.Bits.{bitOr}
 use lib.Dec.{eqb, ltb}
 use Rattle.records.specs.Bits.{bitOf, numberOf}
 use Rattle.records.specs.Lists.{tabulate, every}
@@ -30,7 +29,8 @@ bytesOf n set = tabulate n (λ i. numberOf 8 (λ k. set (8 * i + k)))
 abbrev pub without : List ℕ → ℕ → ℕ → Bool
 without r x l = has r l && not (eqb l x)
 
--- "The resolvent is (left without the positive literal) together with (right without the negative literal)."
+-- "The resolvent is (left without the positive literal) together with (right without the negative literal)." The pivot is one of the
+-- 8h variables: the tests of a step see to it.
 abbrev pub resolved : ℕ → List ℕ → List ℕ → ℕ → ℕ → Bool
 resolved h left right pivot l = without left (literal h true pivot) l || without right (literal h false pivot) l
 
@@ -38,18 +38,11 @@ resolved h left right pivot l = without left (literal h true pivot) l || without
 unfoldable pub resolvent : ℕ → List ℕ → List ℕ → ℕ → List ℕ
 resolvent h left right pivot = bytesOf (2 * h) (resolved h left right pivot)
 
--- the literals of two records together, byte by byte
-unfoldable pub joined : List ℕ → List ℕ → List ℕ
-joined from to = tabulate (length to) (λ i. bitOr (getD to i 0) (getD from i 0))
-
--- a byte without its bit k
-unfoldable pub takenOut : ℕ → ℕ → ℕ
-takenOut byte k = numberOf 8 (λ j. bitOf byte j && not (eqb j k))
-
 -- a part of a table once the resolvent was written into it: a part that is no record stays as it is
 unfoldable pub resolvedInto : ℕ → List ℕ → List ℕ → ℕ → List ℕ → List ℕ
 resolvedInto h left right pivot part = cond (eqb (length part) (2 * h)) (resolvent h left right pivot) part
 
--- "A record of 64 zero bytes is the empty clause."
+-- "A record of 64 zero bytes is the empty clause." Of a list of any length: the empty part counts too, so a search keeps to the
+-- records that are there.
 unfoldable pub empty : List ℕ → Bool
 empty r = every (λ x. eqb x 0) r

@@ -31,7 +31,7 @@ resultOf h a b work s = resolvent h (clauseAt h a b work (s .left)) (clauseAt h 
 unfoldable pub stored : ℕ → List ℕ → List ℕ → Step → ℕ → List ℕ → List ℕ
 stored h a b s i work = put (2 * h) work i (resultOf h a b work s)
 
--- the work table after the first i steps
+-- the work table after the first i steps, all good where i is at most `stopAt`
 unfoldable pub workAfter : ℕ → List ℕ → List ℕ → (ℕ → Step) → List ℕ → ℕ → List ℕ
 workAfter h a b step work zero = work
 workAfter h a b step work (suc i) = stored h a b (step i) i (workAfter h a b step work i)

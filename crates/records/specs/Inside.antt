@@ -1,14 +1,26 @@
--- What the private pieces of the derivation ask and promise. No public contract speaks of these.
+-- What the private pieces ask and promise. No public contract speaks of these.
 use Prim.Native.Nat.{ℕ, _+_, _*_, _≤_, _<_}
 use mathlib.Core.Path.{_≡_}
-use mathlib.Core.Bool.{Bool, true, false, cond}
+use mathlib.Core.Bool.{Bool, true, false, not, cond}
 use mathlib.Core.List.{List}
-use lib.ListN.{length}
+use lib.Bits.{bitOr}
+use lib.Dec.{eqb}
+use lib.ListN.{length, getD}
 use Rattle.records.specs.declared.steps.Step.{Step}
+use Rattle.records.specs.Bits.{numberOf}
+use Rattle.records.specs.Lists.{tabulate}
 use Rattle.records.specs.Clause.{holds, resolvent}
 use Rattle.records.specs.Table.{put}
 use Rattle.records.specs.Tests.{firstFailed, stepTests}
 use Rattle.records.specs.Derivation.{inputs, clauseAt, stored}
+
+-- the byte that has every bit but k
+unfoldable pub allBut : ℕ → ℕ
+allBut k = numberOf 8 (λ j. not (eqb j k))
+
+-- the literals of two records together, byte by byte
+unfoldable pub joined : List ℕ → List ℕ → List ℕ
+joined from to = tabulate (length to) (λ i. bitOr (getD to i 0) (getD from i 0))
 
 -- the sizes that tests 1 to 5 leave, with n results
 pub record Sized (h : ℕ) (a b work : List ℕ) (n : ℕ) : Type 0 where

@@ -2,9 +2,11 @@
 ghost use mathlib.Core.Path.{_≡_};
 ghost use Prim.Native.Nat.{_*_, _<_, _≤_};
 ghost use lib.ListN.{length};
-ghost use Rattle.records.specs.Clause.{has, takenOut, resolvent, resolvedInto};
+ghost use Rattle.records.specs.Clause.{has, resolvent, resolvedInto};
+ghost use Rattle.records.specs.Inside.{allBut};
 
-// Bit `literal` of a record. It tests a literal of a clause, a variable's colour and an assignment alike; past the end there is none.
+// Bit `literal` of a record: of a clause of 64 bytes v is the literal xv, and 256 + v is not xv. It tests a literal of a clause, a
+// variable's colour and an assignment alike; past the end there is none.
 pub fn has_literal(clause: &[u8], literal: usize) -> bool
     ensures { λ r. ⌜ r ≡ has (now (clause .entry)) literal ⌝ }
 {
@@ -26,17 +28,18 @@ pub fn has_literal(clause: &[u8], literal: usize) -> bool
     }
 }
 
-// A byte without its bit k.
-fn take_out(byte: u8, k: usize) -> u8
+// The byte that has every bit but k.
+fn all_but(k: usize) -> u8
     requires { ⌜ k < 8 ⌝ }
-    ensures { λ r. ⌜ r ≡ takenOut byte k ⌝ }
+    ensures { λ r. ⌜ r ≡ allBut k ⌝ }
 {
     let bit = k as u8;
-    byte & !(1u8 << bit)
+    !(1u8 << bit)
 }
 
-// The resolvent of two records with half bytes for each sign, each in the first bytes of its part, in place. All bytes are joined first, without a branch; then the
-// pivot's byte of each half is written anew, with the pivot's literal masked out of the side that loses it.
+// The resolvent of two records with half bytes for each sign, which left and right begin with, written to the part. All bytes are
+// joined first, without a branch; then the pivot's byte of each half is written anew, with the pivot's literal masked out of the
+// side that loses it.
 pub(crate) fn resolve_halves(half: usize, left: &[u8], right: &[u8], pivot: usize, part: &mut [u8])
     requires { ⌜ (half ≤ 64) × (pivot < 8 * half) × (2 * half ≤ length (now left)) × (2 * half ≤ length (now right)) × (length (now part) ≡ 2 * half) ⌝ }
     ensures { λ r. ⌜ now (part .exit) ≡ resolvent half (now (left .entry)) (now (right .entry)) pivot ⌝ }
@@ -49,9 +52,9 @@ pub(crate) fn resolve_halves(half: usize, left: &[u8], right: &[u8], pivot: usiz
     }
     let positive = pivot / 8;
     let negative = half + positive;
-    let k = pivot % 8;
-    part[positive] = take_out(left[positive], k) | right[positive];
-    part[negative] = left[negative] | take_out(right[negative], k);
+    let keep = all_but(pivot % 8);
+    part[positive] = (left[positive] & keep) | right[positive];
+    part[negative] = left[negative] | (right[negative] & keep);
 }
 
 // The resolvent of left, which loses the pivot's positive literal, and right, which loses the negative one, written to a record

@@ -1,6 +1,6 @@
 // The derivation: the steps in order, each resolvent straight into its own record of the work table, and then the root.
 //
-// The pieces take the half, so that they serve records of any size; `derive` fixes it.
+// The pieces take the half, so that they serve records of up to 128 bytes; `derive` fixes it.
 use crate::clauses::has_literal;
 use crate::clauses::resolve_halves;
 use crate::steps::Step;
@@ -79,30 +79,36 @@ fn resolve_tested(
     0
 }
 
-// Step i over the clauses first and second, both earlier: the number of its refusal, or 0 and its resolvent in its own record. The
+// Step i over the clauses with numbers left and right, both earlier: the number of its refusal, or 0 and its resolvent in its own record. The
 // antecedents are copied once; the tests read the copies, and are decided before a byte of the record is written.
 fn resolve_step(
     half: usize,
     a: &[u8],
     b: &[u8],
-    first: usize,
-    second: usize,
+    left: usize,
+    right: usize,
     pivot: usize,
     i: usize,
     work: &mut [u8],
 ) -> usize
     requires { ⌜ Sized half (now a) (now b) (now work) (i + 1) ⌝ }
-    requires { ⌜ (first < inputs half (now a) (now b) + i) × (second < inputs half (now a) (now b) + i) ⌝ }
-    ensures { λ r. ⌜ StepResolved half (now (a .entry)) (now (b .entry)) first second pivot i (now (work .entry)) (now (work .exit)) r ⌝ }
+    requires { ⌜ (left < inputs half (now a) (now b) + i) × (right < inputs half (now a) (now b) + i) ⌝ }
+    ensures { λ r. ⌜ StepResolved half (now (a .entry)) (now (b .entry)) left right pivot i (now (work .entry)) (now (work .exit)) r ⌝ }
 {
-    let mut left = [0u8; 128];
-    let mut right = [0u8; 128];
-    fetch(half, a, b, work, first, &mut left);
-    fetch(half, a, b, work, second, &mut right);
+    let mut left_clause = [0u8; 128];
+    let mut right_clause = [0u8; 128];
+    fetch(half, a, b, work, left, &mut left_clause);
+    fetch(half, a, b, work, right, &mut right_clause);
     let size = 2 * half;
     let start = size * i;
     let end = start + size;
-    resolve_tested(half, &left, &right, pivot, &mut work[start..end])
+    resolve_tested(
+        half,
+        &left_clause,
+        &right_clause,
+        pivot,
+        &mut work[start..end],
+    )
 }
 
 // Step i, whose own clause number is own: the number of its refusal, or 0 and its resolvent in its own record.
@@ -120,14 +126,14 @@ fn take_step(
     ensures { λ r. ⌜ StepTaken half (now (a .entry)) (now (b .entry)) step i (now (work .entry)) (now (work .exit)) r ⌝ }
 {
     let spare = step.spare;
-    let first = step.left;
-    let second = step.right;
+    let left = step.left;
+    let right = step.right;
     let pivot = step.pivot;
-    let number = test_order(spare, first, second, own);
+    let number = test_order(spare, left, right, own);
     if number != 0 {
         return number;
     }
-    resolve_step(half, a, b, first, second, pivot, i, work)
+    resolve_step(half, a, b, left, right, pivot, i, work)
 }
 
 // All steps in order up to the first that fails.
@@ -198,7 +204,7 @@ fn derive_halves(half: usize, a: &[u8], b: &[u8], steps: &[u8], work: &mut [u8])
 }
 
 // The derivation over tables A and B, the steps and the work table: a refusal of tests 1 to 5, 7 to 10 with its step, or 11;
-// or 0 and the root's clause number. Refusals 1 to 5 write nothing, the others leave the resolvents of the good steps.
+// or 0 and the root's clause number. Refusals 1 to 5 write nothing, 7 to 10 leave the resolvents of the steps before, 11 all of them.
 pub fn derive(a: &[u8], b: &[u8], steps: &[u8], work: &mut [u8]) -> Verdict
     ensures { λ r. ⌜ Derives (derived 32 1024 (now (a .entry)) (now (b .entry)) (now (steps .entry)) (now (work .entry))) (now (work .exit)) r ⌝ }
 {

@@ -3,8 +3,9 @@ ghost use mathlib.Core.Path.{_≡_};
 ghost use Prim.Native.Nat.{_+_, _*_, _/_, _<_, _≤_};
 ghost use lib.ListN.{length, take};
 ghost use mathlib.Core.Bool.{false};
-ghost use Rattle.records.specs.Clause.{bytesOf, joined};
+ghost use Rattle.records.specs.Clause.{bytesOf};
 ghost use Rattle.records.specs.Table.{recordAt, records, firstEmpty, literalsOf};
+ghost use Rattle.records.specs.Inside.{joined};
 
 // Record r of a table of records of `size` bytes: the caller's own bytes from size * r, or the empty part where they are not all there.
 pub(crate) fn record_of(table: &[u8], size: usize, r: usize) -> &[u8]
@@ -27,7 +28,7 @@ pub fn record(table: &[u8], r: usize) -> &[u8]
     record_of(table, 64, r)
 }
 
-// A copy of record r, which the table has, into the first bytes of a part that has room for a record of any size.
+// A copy of record r, which the table has, into the first bytes of a part that has room for a record of up to 128.
 pub(crate) fn copy_record(table: &[u8], size: usize, r: usize, part: &mut [u8; 128])
     requires { ⌜ (0 < size) × (size ≤ 128) × (r < records size (now table)) × (length (now part) ≡ 128) ⌝ }
     ensures { λ _. ⌜ take size (now (part .exit)) ≡ recordAt size (now (table .entry)) r ⌝ }
@@ -52,7 +53,7 @@ fn join(from: &[u8], to: &mut [u8])
     }
 }
 
-// All literals of a table whose records have half bytes for each sign, added to those of a record.
+// All literals of a table whose records have half bytes for each sign, put together in a record that starts empty.
 fn join_all(half: usize, table: &[u8], all: &mut [u8])
     requires { ⌜ (0 < half) × (half ≤ 64) × (now all ≡ bytesOf (2 * half) (λ l. false)) ⌝ }
     ensures { λ r. ⌜ now (all .exit) ≡ literalsOf half (now (table .entry)) ⌝ }

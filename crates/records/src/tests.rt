@@ -2,7 +2,7 @@
 ghost use mathlib.Core.Path.{_≡_};
 ghost use Rattle.records.specs.Tests.{firstFailed, tableTests, roomTests, Says};
 
-// Document 01's number and place: a refusal, or number 0.
+// Document 01's number and place. Number 0 is no refusal; the place is then 0 or, from `derive`, the root's clause number.
 pub struct Verdict {
     pub number: usize,
     pub place: usize,

@@ -16,13 +16,13 @@ returns-2 : tie.Need-returns-2
 returns-2 c =
     let args = c .before .before .args in
     let if1 = c .before .if1 in
-    order-refused _ _ _ _ 8 (omega arith) (λ h clause i p. left-late h clause _ i _ (not-false (args .spare) (if1 .left)) (c .if2 .taken))
+    order-refused _ _ _ _ 8 (omega arith) (λ h clause i p. left-late h clause _ i _ (not-false (args .spare) (if1 .left)) (omega (arith, c .if2 .taken)))
 
 returns-3 : tie.Need-returns-3
 returns-3 c =
     let args = c .before .before .before .args in
     let if1 = c .before .before .if1 in
-    order-refused _ _ _ _ 8 (omega arith) (λ h clause i p. right-late h clause _ i _ (not-false (args .spare) (if1 .left)) (c .if3 .taken))
+    order-refused _ _ _ _ 8 (omega arith) (λ h clause i p. right-late h clause _ i _ (not-false (args .spare) (if1 .left)) (omega (arith, c .if3 .taken)))
 
 returns-4 : tie.Need-returns-4
 returns-4 c =

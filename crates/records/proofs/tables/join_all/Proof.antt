@@ -5,7 +5,7 @@ use mathlib.Core.Path.{_≡_, refl, sym, ap, ap₂, _∙_}
 use native.Mathlib.Omega.{arith}
 use lib.ListN.{length}
 use borrow.Author.Needs.{needs}
-use Rattle.records.specs.Clause.{joined}
+use Rattle.records.specs.Inside.{joined}
 use Rattle.records.proofs.TableLaws.{whole, recordAt-part, length-recordAt, bytes-recordAt, literalsBefore, no-literals, more-literals, all-literals}
 use Rattle.records.proofs.ClauseLaws.{length-bytesOf}
 use Rattle.records.proofs.tables.join_all.Statement.{statement}
