@@ -1,7 +1,7 @@
 -- What acceptance says of a derivation, and when it comes.
 use Prim.Native.Nat.{ℕ, _+_, _*_, _%_, _≤_, _<_}
 use mathlib.Core.Path.{_≡_, refl, sym, _∙_}
-use mathlib.Core.Bool.{Bool, true, false, _&&_, _||_, cond, false≢true, true≢false, not-eq-not}
+use mathlib.Core.Bool.{Bool, true, false, _&&_, _||_, cond, false≢true, true≢false}
 use mathlib.Core.List.{List, []}
 use mathlib.Core.Logic.{_⊎_, inl, inr, ⊎-elim, ⊎-map, by-cases}
 use native.Mathlib.Decide.{decLt}
@@ -10,15 +10,16 @@ use borrow.Author.Tests.{eq-eqb, eqb-true, eqb-false, le-leb, leb-true, lt-ltb, 
 use lib.Dec.{eqb, ltb}
 use lib.ListN.{length}
 use Rattle.records.specs.declared.steps.Step.{Step}
+use Rattle.records.specs.Lists.{some}
 use Rattle.records.specs.Clause.{holds, empty}
-use Rattle.records.specs.Table.{recordAt, records, occurs}
+use Rattle.records.specs.Table.{records, clausesOf, occurs}
 use Rattle.records.specs.Step.{stepAt, stepCount}
 use Rattle.records.specs.Tests.{firstFailed, refused, tableTests, roomTests, stepTests, rootTests}
 use Rattle.records.specs.Derivation.{inputs, clauseAt, workAfter, verdictAt, stopAt, stepsVerdict, rootOf, Outcome, judged, andThen, ran, rooted, derived, ByRule, Derivation, clauseCount, lastWork, Sizes}
 use Rattle.records.proofs.NumberLaws.{strong, in-parts}
 use Rattle.records.proofs.ListLaws.{first-le, first-holds, first-before, first-found}
 use Rattle.records.proofs.ClauseLaws.{holds-bound, holds-resolvent}
-use Rattle.records.proofs.TableLaws.{occurs-here}
+use Rattle.records.proofs.TableLaws.{some-clause, which-clause, occurs-here}
 use Rattle.records.proofs.TestLaws.{passed-none, none-passed, refused-not, not-refused, tables-numbered, room-numbered, step-numbered, root-numbered}
 use Rattle.records.proofs.DerivationLaws.{clause-a, clause-b, ends-at, verdict-stopped, verdict-ended}
 use Rattle.records.proofs.WorkLaws.{clause-kept, result-is}
@@ -63,7 +64,7 @@ rule-over h clause other own s same r =
 -- s steps
 module _ (h : ℕ) (a b : List ℕ) (step : ℕ → Step) (work : List ℕ) (s : ℕ) where
   -- they all run, or one is refused
-  stop-cases : (stopAt h a b step work s ≡ s) ⊎ ((i : ℕ) × (i < s) × (i ≡ stopAt h a b step work s) × (refused (verdictAt h a b step work i) ≡ true))
+  pub stop-cases : (stopAt h a b step work s ≡ s) ⊎ ((i : ℕ) × (i < s) × (i ≡ stopAt h a b step work s) × (refused (verdictAt h a b step work i) ≡ true))
   unfolding stopAt
   stop-cases =
       by-cases (decLt (stopAt h a b step work s) s)
@@ -147,10 +148,10 @@ root-below h a b s work e =
     ltb-true root (inputs h a b + s) (none-passed 0 (rootTests root (inputs h a b + s)) (root-numbered root (inputs h a b + s)) passed .0)
 
 -- a derivation from its steps on, and from the test of its room on
-abbrev fromSteps : ℕ → List ℕ → List ℕ → List ℕ → List ℕ → Outcome
+abbrev pub fromSteps : ℕ → List ℕ → List ℕ → List ℕ → List ℕ → Outcome
 fromSteps h a b steps work = andThen (ran h a b (stepAt steps) (stepCount steps) work) (rooted h a b (stepCount steps))
 
-abbrev fromRoom : ℕ → List ℕ → List ℕ → List ℕ → List ℕ → Outcome
+abbrev pub fromRoom : ℕ → List ℕ → List ℕ → List ℕ → List ℕ → Outcome
 fromRoom h a b steps work = andThen (judged (firstFailed (roomTests h steps work)) work) (fromSteps h a b steps)
 
 module _ (h most : ℕ) (a b steps work : List ℕ) where
@@ -209,7 +210,7 @@ module _ (h most : ℕ) (a b steps work : List ℕ) where
       }
 
   -- where all steps run, any empty clause gives the answer 0
-  root-suffices : Sizes h most a b steps work → stopAt h a b (stepAt steps) work (stepCount steps) ≡ stepCount steps
+  pub root-suffices : Sizes h most a b steps work → stopAt h a b (stepAt steps) work (stepCount steps) ≡ stepCount steps
       → (k : ℕ) → k < clauseCount h a b steps → empty (clauseAt h a b (lastWork h a b steps work) k) ≡ true → derived h most a b steps work .number ≡ 0
   unfolding rootOf
   root-suffices sizes all k l e =
@@ -222,17 +223,14 @@ module _ (h most : ℕ) (a b steps work : List ℕ) where
       → (k : ℕ) → k < clauseCount h a b steps → empty (clauseAt h a b (lastWork h a b steps work) k) ≡ true → derived h most a b steps work .number ≡ 0
   accepts sizes rules = root-suffices sizes (good-steps-run h a b (stepAt steps) work (stepCount steps) (sizes .room) rules)
 
-  -- with good sizes a refusal is for a step, or because no clause is empty
-  pub refused-why : Sizes h most a b steps work → (derived h most a b steps work .number ≡ 0 → ⊥)
-      → ((i : ℕ) × (i < stepCount steps) × (refused (verdictAt h a b (stepAt steps) work i) ≡ true))
-      ⊎ ((k : ℕ) → k < clauseCount h a b steps → empty (clauseAt h a b (lastWork h a b steps work) k) ≡ false)
-  refused-why sizes n =
-      ⊎-elim (λ all. inr (λ k l. not-eq-not .0 (λ e. n (root-suffices sizes all k l e)))) (λ t. inl (t .0, t .1, t .3))
-      (stop-cases h a b (stepAt steps) work (stepCount steps))
-
 -- a clause of the table holds that literal
 abbrev pub HeldIn : ℕ → List ℕ → Bool → ℕ → Type 0
-HeldIn h table sign v = (r : ℕ) × (r < records (2 * h) table) × (holds h (recordAt (2 * h) table r) sign v ≡ true)
+HeldIn h table sign v = some (λ c. holds h c sign v) (clausesOf h table) ≡ true
+
+held-occurs : (h : ℕ) (table : List ℕ) (sign : Bool) (v : ℕ) → HeldIn h table sign v → occurs h table v ≡ true
+held-occurs h table sign v held =
+    let w = which-clause h table (λ c. holds h c sign v) held in
+    occurs-here h table (w .0) sign v (w .1) (w .2)
 
 -- what is in a resolvent is in a side
 from-side : (x y z w : Bool) → (x && y || z && w) ≡ true → (x ≡ true) ⊎ (z ≡ true)
@@ -257,8 +255,8 @@ module _ (h : ℕ) (a b last : List ℕ) (step : ℕ → Step) (s : ℕ) (given 
       input : (n : ℕ) → n < inputs h a b → From n
       input =
           in-parts (λ (n : ℕ). n < inputs h a b → From n) (records (2 * h) a)
-          (λ r l m e. inl (r, l, rw (clause-a h a b last r l) at e))
-          (λ r m e. let l : r < records (2 * h) b = omega arith in inr (r, l, rw (clause-b h a b last r l) at e))
+          (λ r l m e. inl (some-clause h a (λ c. holds h c sign v) r l (rw (clause-a h a b last r l) at e)))
+          (λ r m e. let l : r < records (2 * h) b = omega arith in inr (some-clause h b (λ c. holds h c sign v) r l (rw (clause-b h a b last r l) at e)))
 
       Known : ℕ → Type 0
       Known n = n < inputs h a b + s → From n
@@ -277,5 +275,4 @@ module _ (h : ℕ) (a b last : List ℕ) (step : ℕ → Step) (s : ℕ) (given 
 
   -- so its variable occurs in A or in B
   pub literal-occurs : (sign : Bool) (v n : ℕ) → n < inputs h a b + s → holds h (clauseAt h a b last n) sign v ≡ true → (occurs h a v ≡ true) ⊎ (occurs h b v ≡ true)
-  literal-occurs sign v n l e =
-      ⊎-map (λ o. occurs-here h a (o .0) sign v (o .1) (o .2)) (λ o. occurs-here h b (o .0) sign v (o .1) (o .2)) (literal-origin sign v n l e)
+  literal-occurs sign v n l e = ⊎-map (held-occurs h a sign v) (held-occurs h b sign v) (literal-origin sign v n l e)

@@ -11,4 +11,5 @@ pub mod InsideLaws
 pub mod WorkLaws
 pub mod MeaningLaws
 pub mod AcceptanceLaws
+pub mod RefusalLaws
 pub mod Unique

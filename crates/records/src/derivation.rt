@@ -95,20 +95,14 @@ fn resolve_step(
     requires { ⌜ (left < inputs half (now a) (now b) + i) × (right < inputs half (now a) (now b) + i) ⌝ }
     ensures { λ r. ⌜ StepResolved half (now (a .entry)) (now (b .entry)) left right pivot i (now (work .entry)) (now (work .exit)) r ⌝ }
 {
-    let mut left_clause = [0u8; 128];
-    let mut right_clause = [0u8; 128];
-    fetch(half, a, b, work, left, &mut left_clause);
-    fetch(half, a, b, work, right, &mut right_clause);
+    let mut left_copy = [0u8; 128];
+    fetch(half, a, b, work, left, &mut left_copy);
+    let mut right_copy = [0u8; 128];
+    fetch(half, a, b, work, right, &mut right_copy);
     let size = 2 * half;
     let start = size * i;
     let end = start + size;
-    resolve_tested(
-        half,
-        &left_clause,
-        &right_clause,
-        pivot,
-        &mut work[start..end],
-    )
+    resolve_tested(half, &left_copy, &right_copy, pivot, &mut work[start..end])
 }
 
 // Step i, whose own clause number is own: the number of its refusal, or 0 and its resolvent in its own record.

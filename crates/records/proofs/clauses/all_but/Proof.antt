@@ -4,18 +4,13 @@ use Rattle.records.proofs.ClauseLaws.{all-but-mask}
 use borrow.Author.Needs.{needs}
 use Rattle.records.proofs.clauses.all_but.Statement.{statement}
 use Rattle.records.proofs.clauses.all_but.Tie as tie
-use Rattle.records.proofs.clauses.all_but.Reads as reads
-use Rattle.records.proofs.clauses.all_but.Lts as lts
 
--- src/clauses.rt:36:15
 cast-bit : tie.Need-cast-bit
 cast-bit c = search needs
 
--- src/clauses.rt:37:7
 shl-result : tie.Need-shl-result
 shl-result c = search needs
 
--- src/clauses.rt:32:1
 returns : tie.Need-returns
 returns c = all-but-mask _ (omega arith)
 

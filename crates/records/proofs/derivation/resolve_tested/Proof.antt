@@ -17,6 +17,7 @@ returns : tie.Need-returns
 unfolding pivotNumber
 returns c =
     let args = c .before .before .args in
+    let args = args in
     pivot-refused _ _ _ _ _ 9 (omega arith) (rw (holds-past (args .half) (args .left .now) true (args .pivot) (c .if1 .taken)) refl)
 
 has-literal-requires : tie.Need-has-literal-requires
@@ -28,6 +29,9 @@ returns-2 c =
     let args = c .before .before .before .before .before .args in
     let if1 = c .before .before .before .if1 in
     let has-literal = c .before .has-literal in
+    let args = args in
+    let if1 = if1 in
+    let has-literal = has-literal in
     pivot-refused _ _ _ _ _ 9 (omega arith)
     (rw (holds-has (args .half) (args .left .now) true (args .pivot) (if1 .left) ∙ sym (has-literal .ensures) ∙ not-true (has-literal .result) (c .if2 .taken)) refl)
 
@@ -45,6 +49,11 @@ returns-3 c =
     let has-literal = c .before .before .before .before .has-literal in
     let if2 = c .before .before .before .if2 in
     let has-literal2 = c .before .has-literal2 in
+    let args = args in
+    let if1 = if1 in
+    let has-literal = has-literal in
+    let if2 = if2 in
+    let has-literal2 = has-literal2 in
     pivot-refused _ _ _ _ _ 10 (omega arith)
     (rw (
       holds-has (args .half) (args .left .now) true (args .pivot) (if1 .left) ∙ sym (has-literal .ensures) ∙ not-false (has-literal .result) (if2 .left),
@@ -67,6 +76,13 @@ returns-4 c =
     let has-literal2 = c .before .before .before .before .before .before .before .has-literal2 in
     let if3 = c .before .before .before .before .before .before .if3 in
     let resolve-halves = c .before .before .resolve-halves in
+    let args = args in
+    let if1 = if1 in
+    let has-literal = has-literal in
+    let if2 = if2 in
+    let has-literal2 = has-literal2 in
+    let if3 = if3 in
+    let resolve-halves = resolve-halves in
     record {
       number = rw (
         holds-has (args .half) (args .left .now) true (args .pivot) (if1 .left) ∙ sym (has-literal .ensures) ∙ not-false (has-literal .result) (if2 .left),
