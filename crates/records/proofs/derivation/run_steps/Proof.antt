@@ -80,7 +80,7 @@ returns c =
     let read-step = read-step in
     rw (take-step .ensures .bad (c .if1 .taken))
     (bad-run (args .half) (args .a .now) (args .b .now) (stepAt (args .steps .now)) (args .work .now) (loop .work) (loop .i) (take-step .result) (loop .inv .2)
-    (rw (← read-is _ _ _ (read-step .ensures)) (take-step .ensures .number)) _ (omega arith) (loop .inv .3) (c .if1 .taken))
+    (rw (← read-is (args .steps .now) (loop .i) (read-step .result) (read-step .ensures)) (take-step .ensures .number)) _ (omega arith) (loop .inv .3) (c .if1 .taken))
 
 add-i : tie.Need-add-i Inv-loop μ-loop
 add-i c = omega arith
