@@ -34,7 +34,7 @@ module _ (h : ℕ) (clause : ℕ → List ℕ) (own i : ℕ) (s : Step) where
   pub by-rule : refused (firstFailed (stepTests h clause own i s)) ≡ false → ByRule h clause own s
   unfolding stepTests
   by-rule e =
-      let passed = none-passed i (stepTests h clause own i s) (step-numbered h clause own i s) (not-refused (firstFailed (stepTests h clause own i s)) e) in
+      let passed = none-passed (stepTests h clause own i s) (step-numbered h clause own i s) (not-refused (firstFailed (stepTests h clause own i s)) e) in
       let earlier = and-both (ltb (s .left) own) (ltb (s .right) own) (passed .1 .0) in
       record {
         spare = passed .0;
@@ -145,7 +145,7 @@ unfolding rooted rootTests
 root-below h a b s work e =
     let root = rootOf h a b work (inputs h a b + s) in
     let passed = sequence (judged (firstFailed (rootTests root (inputs h a b + s))) work) (judged (record { number = 0; place = root })) e .0 in
-    ltb-true root (inputs h a b + s) (none-passed 0 (rootTests root (inputs h a b + s)) (root-numbered root (inputs h a b + s)) passed .0)
+    ltb-true root (inputs h a b + s) (none-passed (rootTests root (inputs h a b + s)) (root-numbered root (inputs h a b + s)) passed .0)
 
 -- a derivation from its steps on, and from the test of its room on
 abbrev pub fromSteps : ℕ → List ℕ → List ℕ → List ℕ → List ℕ → Outcome
@@ -162,8 +162,8 @@ module _ (h most : ℕ) (a b steps work : List ℕ) where
       let first = sequence (judged (firstFailed (tableTests h most a b steps)) work) (fromRoom h a b steps) e in
       let second = sequence (judged (firstFailed (roomTests h steps work)) work) (fromSteps h a b steps) (first .1) in
       let third = sequence (ran h a b (stepAt steps) (stepCount steps) work) (rooted h a b (stepCount steps)) (second .1) in
-      let tables = none-passed 0 (tableTests h most a b steps) (tables-numbered h most a b steps) (first .0) in
-      let enough = none-passed 0 (roomTests h steps work) (room-numbered h steps work) (second .0) in
+      let tables = none-passed (tableTests h most a b steps) (tables-numbered h most a b steps) (first .0) in
+      let enough = none-passed (roomTests h steps work) (room-numbered h steps work) (second .0) in
       let all : stopAt h a b (stepAt steps) work (stepCount steps) ≡ stepCount steps = none-refused h a b (stepAt steps) work (stepCount steps) (third .0) in
       record {
         sizes =

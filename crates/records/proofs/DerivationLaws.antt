@@ -14,7 +14,7 @@ use Rattle.records.specs.Table.{recordAt, records, firstEmpty}
 use Rattle.records.specs.Tests.{firstFailed, refused, stepTests, rootTests, Says}
 use Rattle.records.specs.Derivation.{inputs, clauseAt, stored, workAfter, verdictAt, stopAt, stepsVerdict, rootOf, Outcome, judged, andThen, ran, rooted, Derives}
 use Rattle.records.proofs.ListLaws.{first-is, first-same, first-in, first-past}
-use Rattle.records.proofs.TestLaws.{refused-is, refused-not, refused-place, step-numbered}
+use Rattle.records.proofs.TestLaws.{refused-is, refused-not, refused-place, step-placed}
 
 -- a clause by its number: of A, of B, or a result
 module _ (h : ℕ) (a b work : List ℕ) where
@@ -122,7 +122,7 @@ module _ (h : ℕ) (a b : List ℕ) (step : ℕ → Step) (work w : List ℕ) (i
       record {
         number = at-turn ∙ sym (ap (λ (v : Verdict). v .number) verdict);
         place = sym (ap (λ (v : Verdict). v .place) verdict
-            ∙ refused-place i (stepTests h (clauseAt h a b (workAfter h a b step work i)) (inputs h a b + i) i (step i)) (step-numbered h (clauseAt h a b (workAfter h a b step work i)) (inputs h a b + i) i (step i)) is-bad);
+            ∙ refused-place i (stepTests h (clauseAt h a b (workAfter h a b step work i)) (inputs h a b + i) i (step i)) (step-placed h (clauseAt h a b (workAfter h a b step work i)) (inputs h a b + i) i (step i)) is-bad);
         work = same ∙ ap (workAfter h a b step work) stop;
       }
 

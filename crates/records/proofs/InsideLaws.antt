@@ -20,8 +20,8 @@ pub sized-by : (h most : ℕ) (a b steps work : List ℕ) → 0 < h → h ≤ 64
     → firstFailed (roomTests h steps work) .number ≡ 0 → Sized h a b work (stepCount steps)
 unfolding tableTests roomTests
 sized-by h most a b steps work least small few tables room =
-    let t = none-passed 0 (tableTests h most a b steps) (tables-numbered h most a b steps) tables in
-    let r = none-passed 0 (roomTests h steps work) (room-numbered h steps work) room in
+    let t = none-passed (tableTests h most a b steps) (tables-numbered h most a b steps) tables in
+    let r = none-passed (roomTests h steps work) (room-numbered h steps work) room in
     let count = leb-true (inputs h a b + stepCount steps) most (t .1 .1 .1 .0) in
     record {
       half-least = least;

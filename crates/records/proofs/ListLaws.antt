@@ -1,6 +1,7 @@
 -- The laws of lists made of a rule, and of searches.
 use Prim.Native.Nat.{ℕ, zero, suc, _+_, _-_, _≤_, _<_}
-use mathlib.Core.Path.{_≡_, refl, sym, ap, _∙_, subst}
+use mathlib.Core.Path.{_≡_, refl, sym, ap, ap₂, _∙_, subst}
+use mathlib.Core.List.{List, [], _∷_, _++_}
 use mathlib.Core.Bool.{Bool, true, false, _&&_, _||_, cond, true≢false, or-true, or-false, or-assoc}
 use native.Mathlib.Numerals.{add-one}
 use native.Mathlib.Decide.{decLt}
@@ -19,6 +20,18 @@ unfolding tabulate
 getD-tabulate zero f d i h = absurd (omega arith)
 getD-tabulate (suc n) f d zero h = refl
 getD-tabulate (suc n) f d (suc i) h = getD-tabulate n (λ i. f (suc i)) d i (omega arith)
+
+-- a list is made of its members, and a rule has one member more at the end
+pub tabulate-members : {A : Type 0} (xs : List A) (f : ℕ → A) (d : A) → ((k : ℕ) → k < length xs → f k ≡ getD xs k d) → tabulate (length xs) f ≡ xs
+unfolding tabulate
+tabulate-members [] f d same = refl
+tabulate-members (x ∷ xs) f d same =
+    ap₂ (λ y ys. y ∷ ys) (same zero (omega arith)) (tabulate-members xs (λ i. f (suc i)) d (λ k l. same (suc k) (omega arith)))
+
+pub tabulate-snoc : {A : Type 0} (n : ℕ) (f : ℕ → A) → tabulate (suc n) f ≡ tabulate n f ++ (f n ∷ [])
+unfolding tabulate
+tabulate-snoc zero f = refl
+tabulate-snoc (suc n) f = ap (λ ys. f 0 ∷ ys) (tabulate-snoc n (λ i. f (suc i)))
 
 -- first: the one that has all before it false, and is true itself where it is below n
 pub first-is : (p : ℕ → Bool) (n r : ℕ) → r ≤ n → ((k : ℕ) → k < r → p k ≡ false) → (r < n → p r ≡ true) → r ≡ first p n

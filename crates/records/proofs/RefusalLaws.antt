@@ -1,21 +1,19 @@
 -- What a refusal says of a derivation, and what it leaves in the work table.
-use Prim.Native.Nat.{ℕ, _+_, _*_, _%_, _≤_, _<_}
+use Prim.Native.Nat.{ℕ, _+_, _≤_, _<_}
 use mathlib.Core.Path.{_≡_, refl, sym, ap, _∙_}
 use mathlib.Core.Bool.{Bool, true, false, cond, true≢false, not-eq-not}
 use mathlib.Core.List.{List}
 use mathlib.Core.Logic.{_⊎_, inl, inr, ⊎-elim, by-cases}
 use native.Mathlib.Decide.{decLt}
 use native.Mathlib.Omega.{arith}
-use borrow.Author.Tests.{eq-eqb, le-leb}
 use lib.Dec.{eqb}
-use lib.ListN.{length}
 use Rattle.records.specs.declared.tests.Verdict.{Verdict}
 use Rattle.records.specs.Clause.{empty}
 use Rattle.records.specs.Step.{stepAt, stepCount}
 use Rattle.records.specs.Tests.{firstFailed, refused, tableTests, roomTests, stepTests}
 use Rattle.records.specs.Derivation.{inputs, clauseAt, workAfter, verdictAt, stopAt, rootOf, Outcome, judged, andThen, ran, rooted, derived, clauseCount, lastWork, Sizes}
 use Rattle.records.proofs.ListLaws.{first-holds}
-use Rattle.records.proofs.TestLaws.{passed-none, refused-not, refused-place, step-numbered}
+use Rattle.records.proofs.TestLaws.{Passed, passed-none, sizes-pass, refused-not, refused-place, step-placed}
 use Rattle.records.proofs.DerivationLaws.{refusal-stands, next-decides, verdict-stopped, verdict-ended, root-missing}
 use Rattle.records.proofs.AcceptanceLaws.{stop-cases, root-suffices, fromSteps, fromRoom}
 
@@ -48,19 +46,19 @@ module _ (h most : ℕ) (a b steps work : List ℕ) where
   module _ (sizes : Sizes h most a b steps work) where
     -- within the limits the steps and the root decide
     pub steps-decide : derived h most a b steps work ≡ fromSteps h a b steps work
-    unfolding derived tableTests roomTests firstFailed
+    unfolding derived firstFailed
     steps-decide =
         next-decides (judged (firstFailed (tableTests h most a b steps)) work) (fromRoom h a b steps) tables
         ∙ next-decides (judged (firstFailed (roomTests h steps work)) work) (fromSteps h a b steps) room
       where
+        passed : Passed (tableTests h most a b steps) × Passed (roomTests h steps work)
+        passed = sizes-pass h most a b steps work sizes
+
         tables : firstFailed (tableTests h most a b steps) .number ≡ 0
-        tables =
-            ap (λ (v : Verdict). v .number)
-            (passed-none (tableTests h most a b steps)
-            (eq-eqb (length a % (2 * h)) 0 (sizes .a-whole), (eq-eqb (length b % (2 * h)) 0 (sizes .b-whole), (eq-eqb (length steps % 8) 0 (sizes .steps-whole), (le-leb (clauseCount h a b steps) most (sizes .few), tt)))))
+        tables = ap (λ (v : Verdict). v .number) (passed-none (tableTests h most a b steps) (passed .0))
 
         room : firstFailed (roomTests h steps work) .number ≡ 0
-        room = ap (λ (v : Verdict). v .number) (passed-none (roomTests h steps work) (le-leb (2 * h * stepCount steps) (length work) (sizes .room), tt))
+        room = ap (λ (v : Verdict). v .number) (passed-none (roomTests h steps work) (passed .1))
 
     -- "7 to 10 at step i leave work records 0 to i-1 as resolvents. 11 leaves all s of them", and so does acceptance
     pub work-left : derived h most a b steps work .work ≡ workAfter h a b (stepAt steps) work (stopAt h a b (stepAt steps) work (stepCount steps))
@@ -90,7 +88,7 @@ module _ (h most : ℕ) (a b steps work : List ℕ) where
               e,
               ap (λ (o : Outcome). o .place) here ∙ ap (λ (v : Verdict). v .place) verdict
                   ∙ refused-place i (stepTests h (clauseAt h a b (workAfter h a b (stepAt steps) work i)) (inputs h a b + i) i (stepAt steps i))
-                  (step-numbered h (clauseAt h a b (workAfter h a b (stepAt steps) work i)) (inputs h a b + i) i (stepAt steps i)) some,
+                  (step-placed h (clauseAt h a b (workAfter h a b (stepAt steps) work i)) (inputs h a b + i) i (stepAt steps i)) some,
               ap (λ (o : Outcome). o .number) here ∙ ap (λ (v : Verdict). v .number) verdict,
             )
 

@@ -1,14 +1,17 @@
 -- The laws of ordered tests: the first that fails answers, and where none is refused all passed.
-use Prim.Native.Nat.{ℕ, _≤_, _<_}
+use Prim.Native.Nat.{ℕ, _+_, _*_, _%_, _≤_, _<_}
 use mathlib.Core.Path.{_≡_, refl, ap}
 use mathlib.Core.Bool.{Bool, true, false, not, cond, true≢false, and-false}
-use mathlib.Core.List.{List, [], _∷_}
+use mathlib.Core.List.{List, [], _∷_, _++_}
 use native.Mathlib.Omega.{arith}
-use borrow.Author.Tests.{eq-eqb, ne-eqb, eqb-true, lt-ltb, le-ltb}
+use borrow.Author.Tests.{eq-eqb, ne-eqb, eqb-true, lt-ltb, le-ltb, le-leb}
+use lib.ListN.{length}
 use lib.Dec.{eqb, ltb}
 use Rattle.records.specs.declared.tests.Verdict.{Verdict}
 use Rattle.records.specs.declared.steps.Step.{Step}
 use Rattle.records.specs.Clause.{holds}
+use Rattle.records.specs.Step.{stepCount}
+use Rattle.records.specs.Derivation.{clauseCount, Sizes}
 use Rattle.records.specs.Tests.{Test, test, firstFailed, refused, tableTests, roomTests, stepTests, rootTests}
 
 -- every test of the list passed
@@ -16,36 +19,41 @@ abbrev pub Passed : List Test → Type 0
 Passed [] = Unit {0}
 Passed (t ∷ ts) = (t .passed ≡ true) × Passed ts
 
--- each refusal has a number above 0, and its place is p
-abbrev pub Numbered : ℕ → List Test → Type 0
-Numbered p [] = Unit {0}
-Numbered p (t ∷ ts) = (0 < t .number) × (t .place ≡ p) × Numbered p ts
+-- each refusal has a number above 0
+abbrev pub Numbered : List Test → Type 0
+Numbered [] = Unit {0}
+Numbered (t ∷ ts) = (0 < t .number) × Numbered ts
+
+-- each refusal has the place p
+abbrev pub Placed : ℕ → List Test → Type 0
+Placed p [] = Unit {0}
+Placed p (t ∷ ts) = (t .place ≡ p) × Placed p ts
 
 pub passed-none : (ts : List Test) → Passed ts → firstFailed ts ≡ firstFailed []
 unfolding firstFailed
 passed-none [] all = refl
 passed-none (t ∷ ts) all = rw (all .0) (passed-none ts (all .1))
 
-pub none-passed : (p : ℕ) (ts : List Test) → Numbered p ts → firstFailed ts .number ≡ 0 → Passed ts
+pub none-passed : (ts : List Test) → Numbered ts → firstFailed ts .number ≡ 0 → Passed ts
 unfolding firstFailed
-none-passed p [] n e = tt
-none-passed p (t ∷ ts) n e = go (none-passed p ts (n .2)) (t .passed) refl e
+none-passed [] n e = tt
+none-passed (t ∷ ts) n e = go (none-passed ts (n .1)) (t .passed) refl e
   where
     go : (firstFailed ts .number ≡ 0 → Passed ts) → (b : Bool) → t .passed ≡ b
         → cond b (firstFailed ts) (record { number = t .number; place = t .place }) .number ≡ 0 → (t .passed ≡ true) × Passed ts
     go rec true q f = (q, rec f)
     go rec false q f = absurd (omega (arith, n .0))
 
-pub refused-place : (p : ℕ) (ts : List Test) → Numbered p ts → (firstFailed ts .number ≡ 0 → ⊥) → firstFailed ts .place ≡ p
+pub refused-place : (p : ℕ) (ts : List Test) → Placed p ts → (firstFailed ts .number ≡ 0 → ⊥) → firstFailed ts .place ≡ p
 unfolding firstFailed
 refused-place p [] n f = absurd (f refl)
-refused-place p (t ∷ ts) n f = go (refused-place p ts (n .2)) (t .passed) refl f
+refused-place p (t ∷ ts) n f = go (refused-place p ts (n .1)) (t .passed) refl f
   where
     go : ((firstFailed ts .number ≡ 0 → ⊥) → firstFailed ts .place ≡ p) → (b : Bool) → t .passed ≡ b
         → (cond b (firstFailed ts) (record { number = t .number; place = t .place }) .number ≡ 0 → ⊥)
         → cond b (firstFailed ts) (record { number = t .number; place = t .place }) .place ≡ p
     go rec true q g = rec g
-    go rec false q g = n .1
+    go rec false q g = n .0
 
 -- refused or not, by the number
 pub refused-not : (v : Verdict) → v .number ≡ 0 → refused v ≡ false
@@ -61,22 +69,67 @@ not-refused v e = go (eqb (v .number) 0) refl e
     go true q f = eqb-true (v .number) 0 q
     go false q f = absurd (true≢false f)
 
--- the numbers and places of each list
-pub tables-numbered : (h most : ℕ) (a b steps : List ℕ) → Numbered 0 (tableTests h most a b steps)
+-- the numbers of each list, and the place of a step's tests
+pub tables-numbered : (h most : ℕ) (a b steps : List ℕ) → Numbered (tableTests h most a b steps)
 unfolding tableTests
-tables-numbered h most a b steps = (omega arith, refl, (omega arith, refl, (omega arith, refl, (omega arith, refl, tt))))
+tables-numbered h most a b steps = (omega arith, (omega arith, (omega arith, (omega arith, tt))))
 
-pub room-numbered : (h : ℕ) (steps work : List ℕ) → Numbered 0 (roomTests h steps work)
+pub room-numbered : (h : ℕ) (steps work : List ℕ) → Numbered (roomTests h steps work)
 unfolding roomTests
-room-numbered h steps work = (omega arith, refl, tt)
+room-numbered h steps work = (omega arith, tt)
 
-pub step-numbered : (h : ℕ) (clause : ℕ → List ℕ) (own i : ℕ) (s : Step) → Numbered i (stepTests h clause own i s)
+pub step-numbered : (h : ℕ) (clause : ℕ → List ℕ) (own i : ℕ) (s : Step) → Numbered (stepTests h clause own i s)
 unfolding stepTests
-step-numbered h clause own i s = (omega arith, refl, (omega arith, refl, (omega arith, refl, (omega arith, refl, tt))))
+step-numbered h clause own i s = (omega arith, (omega arith, (omega arith, (omega arith, tt))))
 
-pub root-numbered : (root n : ℕ) → Numbered 0 (rootTests root n)
+pub step-placed : (h : ℕ) (clause : ℕ → List ℕ) (own i : ℕ) (s : Step) → Placed i (stepTests h clause own i s)
+unfolding stepTests
+step-placed h clause own i s = (refl, (refl, (refl, (refl, tt))))
+
+pub root-numbered : (root n : ℕ) → Numbered (rootTests root n)
 unfolding rootTests
-root-numbered root n = (omega arith, refl, tt)
+root-numbered root n = (omega arith, tt)
+
+-- no test, and two lists of tests, one after the other
+pub no-test : firstFailed [] ≡ record { number = 0; place = 0 }
+unfolding firstFailed
+no-test = refl
+
+pub passed-append : (ts us : List Test) → Passed ts → Passed us → Passed (ts ++ us)
+passed-append [] us p q = q
+passed-append (t ∷ ts) us p q = (p .0, passed-append ts us (p .1) q)
+
+pub append-passed : (ts us : List Test) → Passed (ts ++ us) → Passed ts × Passed us
+append-passed [] us p = (tt, p)
+append-passed (t ∷ ts) us p = let rest = append-passed ts us (p .1) in ((p .0, rest .0), rest .1)
+
+pub numbered-append : (ts us : List Test) → Numbered ts → Numbered us → Numbered (ts ++ us)
+numbered-append [] us n m = m
+numbered-append (t ∷ ts) us n m = (n .0, numbered-append ts us (n .1) m)
+
+pub after-passed : (ts us : List Test) → Passed ts → firstFailed (ts ++ us) ≡ firstFailed us
+unfolding firstFailed
+after-passed [] us p = refl
+after-passed (t ∷ ts) us p = rw (p .0) (after-passed ts us (p .1))
+
+pub after-refused : (ts us : List Test) → (firstFailed ts .number ≡ 0 → ⊥) → firstFailed (ts ++ us) ≡ firstFailed ts
+unfolding firstFailed
+after-refused [] us n = absurd (n refl)
+after-refused (t ∷ ts) us n = go (t .passed) (after-refused ts us) n
+  where
+    go : (b : Bool) → ((firstFailed ts .number ≡ 0 → ⊥) → firstFailed (ts ++ us) ≡ firstFailed ts)
+        → (cond b (firstFailed ts) (record { number = t .number; place = t .place }) .number ≡ 0 → ⊥)
+        → cond b (firstFailed (ts ++ us)) (record { number = t .number; place = t .place }) ≡ cond b (firstFailed ts) (record { number = t .number; place = t .place })
+    go true rest m = rest m
+    go false rest m = refl
+
+-- the limits pass tests 1 to 5
+pub sizes-pass : (h most : ℕ) (a b steps work : List ℕ) → Sizes h most a b steps work → Passed (tableTests h most a b steps) × Passed (roomTests h steps work)
+unfolding tableTests roomTests
+sizes-pass h most a b steps work sizes = (
+  (eq-eqb (length a % (2 * h)) 0 (sizes .a-whole), (eq-eqb (length b % (2 * h)) 0 (sizes .b-whole), (eq-eqb (length steps % 8) 0 (sizes .steps-whole), (le-leb (clauseCount h a b steps) most (sizes .few), tt)))),
+  (le-leb (2 * h * stepCount steps) (length work) (sizes .room), tt),
+)
 
 -- which test of a step fails first
 module _ (h : ℕ) (clause : ℕ → List ℕ) (own i : ℕ) (s : Step) where

@@ -2,9 +2,9 @@
 -- Only this file knows the bytes: all others have left, right, pivot, and whether the spare bytes are zero.
 use Prim.Native.Nat.{ℕ, _+_, _*_}
 use mathlib.Core.Path.{_≡_}
-use mathlib.Core.Bool.{Bool, _&&_}
+use mathlib.Core.Bool.{_&&_}
 use mathlib.Core.List.{List}
-use lib.ListN.{length, getD}
+use lib.ListN.{getD}
 use lib.Dec.{eqb}
 use Rattle.records.specs.declared.steps.Step.{Step}
 use Rattle.records.specs.Table.{recordAt, records}

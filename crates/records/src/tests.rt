@@ -1,5 +1,4 @@
 // The tests of the tables' lengths: 1 to 4, and 5. They write nothing.
-ghost use mathlib.Core.Path.{_≡_};
 ghost use Rattle.records.specs.Tests.{firstFailed, tableTests, roomTests, Says};
 
 // Document 01's number and place. Number 0 is no refusal; the place is then 0 or, from `derive`, the root's clause number.

@@ -17,6 +17,8 @@ returns c =
     let if1 = c .before .before .before .before .before .before .if1 in
     let resolve-halves = resolve-halves in
     let if1 = if1 in
+    let resolve-halves = resolve-halves in
+    let if1 = if1 in
     resolve-halves .ensures ∙ sym (resolvedInto-record 32 _ _ _ _ (if1 .taken))
 
 returns-2 : tie.Need-returns-2

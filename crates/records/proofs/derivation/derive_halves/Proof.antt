@@ -14,6 +14,7 @@ returns : tie.Need-returns
 returns c =
     let run-steps = c .before .before .before .run-steps in
     let run-steps = run-steps in
+    let run-steps = run-steps in
     derives-refused _ _ _ (run-steps .ensures) _ (c .if1 .taken)
 
 mul-size : tie.Need-mul-size
@@ -45,6 +46,9 @@ returns-2 c =
     let run-steps = run-steps in
     let if1 = if1 in
     let find-root = find-root in
+    let run-steps = run-steps in
+    let if1 = if1 in
+    let find-root = find-root in
     derives-next _ _ _ (run-steps .ensures) _ (if1 .left) _ _ (root-found _ _ _ _ _ _ (find-root .ensures) (c .if2 .taken))
 
 same-length-3 : tie.Need-same-length-3
@@ -55,6 +59,9 @@ returns-3 c =
     let run-steps = c .before .before .before .before .before .before .run-steps in
     let if1 = c .before .before .before .if1 in
     let find-root = c .before .find-root in
+    let run-steps = run-steps in
+    let if1 = if1 in
+    let find-root = find-root in
     let run-steps = run-steps in
     let if1 = if1 in
     let find-root = find-root in

@@ -23,6 +23,7 @@ unfolding clauseAt
 returns c =
     let if1 = c .before .before .if1 in
     let if1 = if1 in
+    let if1 = if1 in
     rw (lt-ltb _ _ (if1 .taken)) (c .copy-record .ensures)
 
 div-in-b : tie.Need-div-in-b
@@ -38,6 +39,8 @@ returns-2 c =
     let args = c .before .before .before .before .before .before .before .args in
     let if1 = if1 in
     let args = args in
+    let if1 = if1 in
+    let args = args in
     rw (le-ltb _ _ (if1 .left), lt-ltb (args .k) (inputs (args .half) (args .a .now) (args .b .now)) (omega arith)) (c .copy-record2 .ensures)
 
 copy-record-requires-3 : tie.Need-copy-record-requires-3
@@ -48,6 +51,8 @@ unfolding clauseAt
 returns-3 c =
     let args = c .before .before .before .before .before .before .before .args in
     let if1 = c .before .before .before .if1 in
+    let args = args in
+    let if1 = if1 in
     let args = args in
     let if1 = if1 in
     let n = inputs (args .half) (args .a .now) (args .b .now) in

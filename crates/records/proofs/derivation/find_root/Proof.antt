@@ -20,6 +20,7 @@ returns : tie.Need-returns
 returns c =
     let first-empty-of = c .before .first-empty-of in
     let first-empty-of = first-empty-of in
+    let first-empty-of = first-empty-of in
     root-in-a _ _ _ _ _ _ (first-empty-of .ensures) (c .if1 .taken)
 
 div-in-b : tie.Need-div-in-b
@@ -37,6 +38,8 @@ returns-2 c =
     let first-empty-of2 = c .before .first-empty-of2 in
     let first-empty-of = first-empty-of in
     let first-empty-of2 = first-empty-of2 in
+    let first-empty-of = first-empty-of in
+    let first-empty-of2 = first-empty-of2 in
     root-in-b _ _ _ _ _ (omega (arith, first-empty-of .ensures)) _ (first-empty-of2 .ensures) (c .if2 .taken)
 
 add-result-2 : tie.Need-add-result-2
@@ -48,11 +51,14 @@ first-empty-of-requires-3 c κs =
     let pre = c .before .before .before .before .before .before .before .pre in
     let args = args in
     let pre = pre in
+    let args = args in
+    let pre = pre in
     (omega arith, records-room (2 * args .half) (args .work .now) (args .n) (omega arith) (pre .room))
 
 add-result-3 : tie.Need-add-result-3
 add-result-3 c =
     let args = c .before .before .before .before .before .before .before .before .args in
+    let args = args in
     let args = args in
     omega (arith, c .first-empty-of3 .ensures, firstEmpty-le (2 * args .half) (args .work .now) (args .n))
 
@@ -60,6 +66,8 @@ returns-3 : tie.Need-returns-3
 returns-3 c =
     let first-empty-of = c .before .before .before .before .first-empty-of in
     let first-empty-of2 = c .before .before .first-empty-of2 in
+    let first-empty-of = first-empty-of in
+    let first-empty-of2 = first-empty-of2 in
     let first-empty-of = first-empty-of in
     let first-empty-of2 = first-empty-of2 in
     root-in-results _ _ _ _ _ (omega (arith, first-empty-of .ensures)) (omega (arith, first-empty-of2 .ensures)) _ (c .first-empty-of3 .ensures)

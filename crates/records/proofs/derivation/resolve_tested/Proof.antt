@@ -18,6 +18,7 @@ unfolding pivotNumber
 returns c =
     let args = c .before .before .args in
     let args = args in
+    let args = args in
     pivot-refused _ _ _ _ _ 9 (omega arith) (rw (holds-past (args .half) (args .left .now) true (args .pivot) (c .if1 .taken)) refl)
 
 has-literal-requires : tie.Need-has-literal-requires
@@ -29,6 +30,9 @@ returns-2 c =
     let args = c .before .before .before .before .before .args in
     let if1 = c .before .before .before .if1 in
     let has-literal = c .before .has-literal in
+    let args = args in
+    let if1 = if1 in
+    let has-literal = has-literal in
     let args = args in
     let if1 = if1 in
     let has-literal = has-literal in
@@ -49,6 +53,11 @@ returns-3 c =
     let has-literal = c .before .before .before .before .has-literal in
     let if2 = c .before .before .before .if2 in
     let has-literal2 = c .before .has-literal2 in
+    let args = args in
+    let if1 = if1 in
+    let has-literal = has-literal in
+    let if2 = if2 in
+    let has-literal2 = has-literal2 in
     let args = args in
     let if1 = if1 in
     let has-literal = has-literal in
@@ -76,6 +85,13 @@ returns-4 c =
     let has-literal2 = c .before .before .before .before .before .before .before .has-literal2 in
     let if3 = c .before .before .before .before .before .before .if3 in
     let resolve-halves = c .before .before .resolve-halves in
+    let args = args in
+    let if1 = if1 in
+    let has-literal = has-literal in
+    let if2 = if2 in
+    let has-literal2 = has-literal2 in
+    let if3 = if3 in
+    let resolve-halves = resolve-halves in
     let args = args in
     let if1 = if1 in
     let has-literal = has-literal in

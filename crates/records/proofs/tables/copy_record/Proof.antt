@@ -42,6 +42,8 @@ loop-again c =
     let args = c .before .before .before .args in
     let loop = loop in
     let args = args in
+    let loop = loop in
+    let args = args in
     let here : loop .i < length (loop .part) = omega arith in (
       omega arith,
       simp length-set (loop .inv .1),
@@ -54,6 +56,9 @@ returns c =
     let args = c .before .before .args in
     let pre = c .before .before .pre in
     let loop = c .before .loop in
+    let args = args in
+    let pre = pre in
+    let loop = loop in
     let args = args in
     let pre = pre in
     let loop = loop in

@@ -39,6 +39,8 @@ loop-again c =
     let args = c .before .before .before .before .args in
     let loop = loop in
     let args = args in
+    let loop = loop in
+    let args = args in
     let here : loop .i < length (loop .to) = omega arith in (
       omega arith,
       simp length-set (loop .inv .1),
@@ -53,6 +55,7 @@ same-length c = search needs
 returns : tie.Need-returns Inv-loop μ-loop
 returns c =
     let loop = c .before .loop in
+    let loop = loop in
     let loop = loop in
     joined-is _ _ _ (omega arith) (λ k l. loop .inv .2 k (omega arith))
 

@@ -1,5 +1,5 @@
-use native.Mathlib.Nat.{div-le-self}
 -- `records::tables::join_all` meets its contract: after r records all of theirs literals are there. Assumes nothing.
+use native.Mathlib.Nat.{div-le-self}
 use Prim.Native.Nat.{_*_, _-_, _≤_}
 use mathlib.Core.Path.{_≡_, refl, sym, ap, ap₂, _∙_}
 use native.Mathlib.Omega.{arith}
@@ -27,6 +27,7 @@ loop-holds : tie.Need-loop-holds Inv-loop μ-loop
 loop-holds c =
     let pre = c .before .before .pre in
     let pre = pre in
+    let pre = pre in
     (omega arith, refl, ap length (pre .2) ∙ length-bytesOf _ _, pre .2 ∙ no-literals _ _)
 
 mul-start : tie.Need-mul-start Inv-loop μ-loop
@@ -35,12 +36,16 @@ mul-start c =
     let loop = c .before .loop in
     let args = args in
     let loop = loop in
+    let args = args in
+    let loop = loop in
     omega (arith, whole (2 * args .half) (length (args .table .now)) (loop .r) (omega arith) (omega arith))
 
 add-end : tie.Need-add-end Inv-loop μ-loop
 add-end c =
     let args = c .before .before .before .before .args in
     let loop = c .before .loop in
+    let args = args in
+    let loop = loop in
     let args = args in
     let loop = loop in
     omega (arith, whole (2 * args .half) (length (args .table .now)) (loop .r) (omega arith) (omega arith))
@@ -57,6 +62,8 @@ part-join-end c =
     let loop = c .before .loop in
     let args = args in
     let loop = loop in
+    let args = args in
+    let loop = loop in
     omega (arith, whole (2 * args .half) (length (args .table .now)) (loop .r) (omega arith) (omega arith))
 
 join-requires : tie.Need-join-requires Inv-loop μ-loop
@@ -65,12 +72,15 @@ join-requires c κs =
     let loop = c .before .before .before .loop in
     let args = args in
     let loop = loop in
+    let args = args in
+    let loop = loop in
     let h = whole (2 * args .half) (length (args .table .now)) (loop .r) (omega arith) (omega arith) in
     rw (recordAt-part (2 * args .half) (args .table .now) (loop .r) h) (loop .inv .2 ∙ sym (length-recordAt (2 * args .half) (args .table .now) (loop .r) h))
 
 add-r : tie.Need-add-r Inv-loop μ-loop
 add-r c =
     let args = c .before .before .before .before .before .before .before .before .before .args in
+    let args = args in
     let args = args in
     omega (arith, div-le-self (length (args .table .now)) (2 * args .half))
 
@@ -83,6 +93,10 @@ loop-again c =
     let loop = c .before .before .before .before .before .before .loop in
     let join = c .before .before .join in
     let shared-slice-known = c .before .before .before .before .before .before .before .before .shared-slice-known in
+    let args = args in
+    let loop = loop in
+    let join = join in
+    let shared-slice-known = shared-slice-known in
     let args = args in
     let loop = loop in
     let join = join in
@@ -100,6 +114,8 @@ returns : tie.Need-returns Inv-loop μ-loop
 returns c =
     let loop = c .before .loop in
     let args = c .before .before .before .before .args in
+    let loop = loop in
+    let args = args in
     let loop = loop in
     let args = args in
     loop .inv .3 ∙ ap (λ m. literalsBefore (args .half) (args .table .now) m) (omega arith) ∙ all-literals _ _

@@ -13,11 +13,13 @@ mul-start : tie.Need-mul-start
 mul-start c =
     let pre = c .before .pre in
     let pre = pre in
+    let pre = pre in
     omega (arith, whole _ _ _ pre (c .if1 .taken))
 
 add-end : tie.Need-add-end
 add-end c =
     let pre = c .before .pre in
+    let pre = pre in
     let pre = pre in
     omega (arith, whole _ _ _ pre (c .if1 .taken))
 
@@ -31,6 +33,7 @@ part-result-end : tie.Need-part-result-end
 part-result-end c =
     let pre = c .before .pre in
     let pre = pre in
+    let pre = pre in
     omega (arith, whole _ _ _ pre (c .if1 .taken))
 
 slice-aggregate-result : tie.Need-slice-aggregate-result
@@ -42,12 +45,16 @@ returns c =
     let if1 = c .before .if1 in
     let pre = pre in
     let if1 = if1 in
+    let pre = pre in
+    let if1 = if1 in
     recordAt-part _ _ _ (whole _ _ _ pre (if1 .taken))
 
 returns-2 : tie.Need-returns-2
 returns-2 c =
     let pre = c .before .before .pre in
     let if1 = c .before .if1 in
+    let pre = pre in
+    let if1 = if1 in
     let pre = pre in
     let if1 = if1 in
     sym (recordAt-out _ _ _ (past _ _ _ pre (if1 .left)))

@@ -1,6 +1,6 @@
+-- `records::tests::test_room` meets its contract. Assumes nothing.
 use lib.ListN.{length}
 use Prim.Native.Nat.{_*_, _/_}
--- `records::tests::test_room` meets its contract. Assumes nothing.
 use mathlib.Core.Path.{refl}
 use native.Mathlib.Omega.{arith}
 use borrow.Author.Tests.{lt-leb, le-leb}
@@ -13,12 +13,14 @@ unfolding roomTests firstFailed
 returns c =
     let args = c .before .args in
     let args = args in
+    let args = args in
     rw (lt-leb (64 * (length (args .steps .now) / 8)) (length (args .work .now)) (omega arith)) (record { number = refl; place = refl })
 
 returns-2 : tie.Need-returns-2
 unfolding roomTests firstFailed
 returns-2 c =
     let args = c .before .args in
+    let args = args in
     let args = args in
     rw (le-leb (64 * (length (args .steps .now) / 8)) (length (args .work .now)) (omega arith)) (record { number = refl; place = refl })
 

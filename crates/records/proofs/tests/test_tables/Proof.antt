@@ -19,12 +19,14 @@ unfolding tableTests firstFailed
 returns c =
     let args = c .before .args in
     let args = args in
+    let args = args in
     rw (ne-eqb (length (args .a .now) % 64) 0 (λ e. c .if1 .taken (omega arith))) (record { number = refl; place = refl })
 
 returns-2 : tie.Need-returns-2
 unfolding tableTests firstFailed
 returns-2 c =
     let args = c .before .before .args in
+    let args = args in
     let args = args in
     rw (
       eq-eqb (length (args .a .now) % 64) 0 (omega arith),
@@ -35,6 +37,7 @@ returns-3 : tie.Need-returns-3
 unfolding tableTests firstFailed
 returns-3 c =
     let args = c .before .before .before .args in
+    let args = args in
     let args = args in
     rw (
       eq-eqb (length (args .a .now) % 64) 0 (omega arith),
@@ -53,6 +56,7 @@ unfolding tableTests firstFailed
 returns-4 c =
     let args = c .before .before .before .before .args in
     let args = args in
+    let args = args in
     rw (
       eq-eqb (length (args .a .now) % 64) 0 (omega arith),
       eq-eqb (length (args .b .now) % 64) 0 (omega arith),
@@ -64,6 +68,7 @@ returns-5 : tie.Need-returns-5
 unfolding tableTests firstFailed
 returns-5 c =
     let args = c .before .before .before .before .args in
+    let args = args in
     let args = args in
     rw (
       eq-eqb (length (args .a .now) % 64) 0 (omega arith),
