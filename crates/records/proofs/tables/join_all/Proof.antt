@@ -1,4 +1,4 @@
--- `records::tables::join_all` meets its contract: after r records all of theirs literals are there. Assumes nothing.
+-- `records::tables::join_all` meets its contract: after r records all their literals are there. Assumes nothing.
 use native.Mathlib.Nat.{div-le-self}
 use Prim.Native.Nat.{_*_, _-_, _≤_}
 use mathlib.Core.Path.{_≡_, refl, sym, ap, ap₂, _∙_}
