@@ -55,6 +55,15 @@ refused-place p (t ∷ ts) n f = go (refused-place p ts (n .1)) (t .passed) refl
     go rec true q g = rec g
     go rec false q g = n .0
 
+-- the first test decides: it fails, or it passes and the others decide
+pub fails : (b : Bool) (n p : ℕ) (ts : List Test) → b ≡ false → firstFailed (test b n p ∷ ts) ≡ record { number = n; place = p }
+unfolding firstFailed
+fails b n p ts e = rw e refl
+
+pub passes : (b : Bool) (n p : ℕ) (ts : List Test) → b ≡ true → firstFailed (test b n p ∷ ts) ≡ firstFailed ts
+unfolding firstFailed
+passes b n p ts e = rw e refl
+
 -- refused or not, by the number
 pub refused-not : (v : Verdict) → v .number ≡ 0 → refused v ≡ false
 refused-not v e = ap not (eq-eqb (v .number) 0 e)
