@@ -185,6 +185,10 @@ pub holds-has : (h : ℕ) (r : List ℕ) (sign : Bool) (v : ℕ) → v < 8 * h �
 unfolding holds
 holds-has h r sign v l = rw (lt-ltb v (8 * h) l) refl
 
+-- as a bit test answers
+pub holds-tested : (h : ℕ) (r : List ℕ) (sign : Bool) (v : ℕ) (answer b : Bool) → v < 8 * h → answer ≡ has r (literal h sign v) → answer ≡ b → holds h r sign v ≡ b
+holds-tested h r sign v answer b l e q = holds-has h r sign v l ∙ sym e ∙ q
+
 pub holds-past : (h : ℕ) (r : List ℕ) (sign : Bool) (v : ℕ) → 8 * h ≤ v → holds h r sign v ≡ false
 unfolding holds
 holds-past h r sign v l = rw (le-ltb v (8 * h) l) refl

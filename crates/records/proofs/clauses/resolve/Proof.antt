@@ -15,10 +15,6 @@ returns : tie.Need-returns
 returns c =
     let resolve-halves = c .before .before .resolve-halves in
     let if1 = c .before .before .before .before .before .before .if1 in
-    let resolve-halves = resolve-halves in
-    let if1 = if1 in
-    let resolve-halves = resolve-halves in
-    let if1 = if1 in
     resolve-halves .ensures ∙ sym (resolvedInto-record 32 _ _ _ _ (if1 .taken))
 
 returns-2 : tie.Need-returns-2

@@ -40,8 +40,6 @@ loop-again : tie.Need-loop-again Inv-loop μ-loop
 loop-again c =
     let loop = c .before .before .before .loop in
     let args = c .before .before .before .before .before .before .before .args in
-    let loop = loop in
-    let args = args in
     let here : loop .i < length (loop .part) = omega arith in (
       omega arith,
       simp length-set (loop .inv .1),
@@ -83,12 +81,6 @@ returns c =
     let shared-slice-known = c .before .before .before .before .before .before .before .before .before .shared-slice-known in
     let shared-slice-known2 = c .before .before .before .before .before .before .before .before .shared-slice-known2 in
     let loop = c .before .before .before .before .before .before .loop in
-    let all-but = all-but in
-    let args = args in
-    let pre = pre in
-    let shared-slice-known = shared-slice-known in
-    let shared-slice-known2 = shared-slice-known2 in
-    let loop = loop in
     rw (all-but .ensures)
     (mended (args .half) (args .left .now) (args .right .now) (args .pivot) (pre .1) (λ i. omega (arith, shared-slice-known .given i)) (λ i. omega (arith, shared-slice-known2 .given i)) (loop .part) (omega arith)
     (λ k l. loop .inv .2 k (omega arith)))

@@ -15,8 +15,6 @@ returns : tie.Need-returns
 unfolding derived
 returns c =
     let test-tables = c .before .test-tables in
-    let test-tables = test-tables in
-    let test-tables = test-tables in
     derives-refused _ _ _ (judged-says _ _ _ (test-tables .ensures)) _ (c .if1 .taken)
 
 test-room-requires : tie.Need-test-room-requires
@@ -31,12 +29,6 @@ returns-2 c =
     let test-tables = c .before .before .before .before .test-tables in
     let if1 = c .before .before .before .if1 in
     let test-room = c .before .test-room in
-    let test-tables = test-tables in
-    let if1 = if1 in
-    let test-room = test-room in
-    let test-tables = test-tables in
-    let if1 = if1 in
-    let test-room = test-room in
     derives-next _ _ _ (judged-says _ _ _ (test-tables .ensures)) _ (if1 .left) _ _ (derives-refused _ _ _ (judged-says _ _ _ (test-room .ensures)) _ (c .if2 .taken))
 
 derive-halves-requires : tie.Need-derive-halves-requires
@@ -45,14 +37,6 @@ derive-halves-requires c κs =
     let if1 = c .before .before .before .before .if1 in
     let test-room = c .before .before .test-room in
     let if2 = c .before .if2 in
-    let test-tables = test-tables in
-    let if1 = if1 in
-    let test-room = test-room in
-    let if2 = if2 in
-    let test-tables = test-tables in
-    let if1 = if1 in
-    let test-room = test-room in
-    let if2 = if2 in
     sized-by 32 1024 _ _ _ _ (omega arith) (omega arith) (omega arith) (sym (test-tables .ensures .number) ∙ if1 .left) (sym (test-room .ensures .number) ∙ if2 .left)
 
 same-length-2 : tie.Need-same-length-2
@@ -66,16 +50,6 @@ returns-3 c =
     let test-room = c .before .before .before .before .before .test-room in
     let if2 = c .before .before .before .before .if2 in
     let derive-halves = c .before .before .derive-halves in
-    let test-tables = test-tables in
-    let if1 = if1 in
-    let test-room = test-room in
-    let if2 = if2 in
-    let derive-halves = derive-halves in
-    let test-tables = test-tables in
-    let if1 = if1 in
-    let test-room = test-room in
-    let if2 = if2 in
-    let derive-halves = derive-halves in
     derives-next _ _ _ (judged-says _ _ _ (test-tables .ensures)) _ (if1 .left) _ _
     (derives-next _ _ _ (judged-says _ _ _ (test-room .ensures)) _ (if2 .left) _ _ (derive-halves .ensures))
 

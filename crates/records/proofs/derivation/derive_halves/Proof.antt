@@ -13,8 +13,6 @@ same-length c = search needs
 returns : tie.Need-returns
 returns c =
     let run-steps = c .before .before .before .run-steps in
-    let run-steps = run-steps in
-    let run-steps = run-steps in
     derives-refused _ _ _ (run-steps .ensures) _ (c .if1 .taken)
 
 mul-size : tie.Need-mul-size
@@ -43,12 +41,6 @@ returns-2 c =
     let run-steps = c .before .before .before .before .before .before .run-steps in
     let if1 = c .before .before .before .if1 in
     let find-root = c .before .find-root in
-    let run-steps = run-steps in
-    let if1 = if1 in
-    let find-root = find-root in
-    let run-steps = run-steps in
-    let if1 = if1 in
-    let find-root = find-root in
     derives-next _ _ _ (run-steps .ensures) _ (if1 .left) _ _ (root-found _ _ _ _ _ _ (find-root .ensures) (c .if2 .taken))
 
 same-length-3 : tie.Need-same-length-3
@@ -59,12 +51,6 @@ returns-3 c =
     let run-steps = c .before .before .before .before .before .before .run-steps in
     let if1 = c .before .before .before .if1 in
     let find-root = c .before .find-root in
-    let run-steps = run-steps in
-    let if1 = if1 in
-    let find-root = find-root in
-    let run-steps = run-steps in
-    let if1 = if1 in
-    let find-root = find-root in
     derives-next _ _ _ (run-steps .ensures) _ (if1 .left) _ _ (root-missing _ _ _ _ _ _ (find-root .ensures) (c .if2 .left))
 
 pub derive-halves-spec : {M : Type 1} → statement M

@@ -22,8 +22,6 @@ returns : tie.Need-returns
 unfolding clauseAt
 returns c =
     let if1 = c .before .before .if1 in
-    let if1 = if1 in
-    let if1 = if1 in
     rw (lt-ltb _ _ (if1 .taken)) (c .copy-record .ensures)
 
 div-in-b : tie.Need-div-in-b
@@ -37,10 +35,6 @@ unfolding clauseAt
 returns-2 c =
     let if1 = c .before .before .before .if1 in
     let args = c .before .before .before .before .before .before .before .args in
-    let if1 = if1 in
-    let args = args in
-    let if1 = if1 in
-    let args = args in
     rw (le-ltb _ _ (if1 .left), lt-ltb (args .k) (inputs (args .half) (args .a .now) (args .b .now)) (omega arith)) (c .copy-record2 .ensures)
 
 copy-record-requires-3 : tie.Need-copy-record-requires-3
@@ -51,10 +45,6 @@ unfolding clauseAt
 returns-3 c =
     let args = c .before .before .before .before .before .before .before .args in
     let if1 = c .before .before .before .if1 in
-    let args = args in
-    let if1 = if1 in
-    let args = args in
-    let if1 = if1 in
     let n = inputs (args .half) (args .a .now) (args .b .now) in
     let e : args .k - length (args .a .now) / (2 * args .half) - length (args .b .now) / (2 * args .half) ≡ args .k - n = omega arith in
     rw (le-ltb _ _ (if1 .left), le-ltb (args .k) n (omega arith), ← e) (c .copy-record3 .ensures)

@@ -19,8 +19,6 @@ first-empty-of-requires c κs = search needs
 returns : tie.Need-returns
 returns c =
     let first-empty-of = c .before .first-empty-of in
-    let first-empty-of = first-empty-of in
-    let first-empty-of = first-empty-of in
     root-in-a _ _ _ _ _ _ (first-empty-of .ensures) (c .if1 .taken)
 
 div-in-b : tie.Need-div-in-b
@@ -36,10 +34,6 @@ returns-2 : tie.Need-returns-2
 returns-2 c =
     let first-empty-of = c .before .before .before .first-empty-of in
     let first-empty-of2 = c .before .first-empty-of2 in
-    let first-empty-of = first-empty-of in
-    let first-empty-of2 = first-empty-of2 in
-    let first-empty-of = first-empty-of in
-    let first-empty-of2 = first-empty-of2 in
     root-in-b _ _ _ _ _ (omega (arith, first-empty-of .ensures)) _ (first-empty-of2 .ensures) (c .if2 .taken)
 
 add-result-2 : tie.Need-add-result-2
@@ -49,27 +43,17 @@ first-empty-of-requires-3 : tie.Need-first-empty-of-requires-3
 first-empty-of-requires-3 c κs =
     let args = c .before .before .before .before .before .before .before .args in
     let pre = c .before .before .before .before .before .before .before .pre in
-    let args = args in
-    let pre = pre in
-    let args = args in
-    let pre = pre in
     (omega arith, records-room (2 * args .half) (args .work .now) (args .n) (omega arith) (pre .room))
 
 add-result-3 : tie.Need-add-result-3
 add-result-3 c =
     let args = c .before .before .before .before .before .before .before .before .args in
-    let args = args in
-    let args = args in
     omega (arith, c .first-empty-of3 .ensures, firstEmpty-le (2 * args .half) (args .work .now) (args .n))
 
 returns-3 : tie.Need-returns-3
 returns-3 c =
     let first-empty-of = c .before .before .before .before .first-empty-of in
     let first-empty-of2 = c .before .before .first-empty-of2 in
-    let first-empty-of = first-empty-of in
-    let first-empty-of2 = first-empty-of2 in
-    let first-empty-of = first-empty-of in
-    let first-empty-of2 = first-empty-of2 in
     root-in-results _ _ _ _ _ (omega (arith, first-empty-of .ensures)) (omega (arith, first-empty-of2 .ensures)) _ (c .first-empty-of3 .ensures)
 
 pub find-root-spec : {M : Type 1} → statement M

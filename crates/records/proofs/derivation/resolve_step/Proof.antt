@@ -15,20 +15,12 @@ fetch-requires : tie.Need-fetch-requires
 fetch-requires c κs =
     let args = c .before .before .before .before .before .args in
     let pre = c .before .before .before .before .before .pre in
-    let args = args in
-    let pre = pre in
-    let args = args in
-    let pre = pre in
     (omega arith, omega arith, omega (arith, records-room (2 * args .half) (args .work .now) (args .i + 1) (omega arith) (pre .0 .room)), refl)
 
 fetch-requires-2 : tie.Need-fetch-requires-2
 fetch-requires-2 c κs =
     let args = c .before .before .before .before .before .before .before .before .args in
     let pre = c .before .before .before .before .before .before .before .before .pre in
-    let args = args in
-    let pre = pre in
-    let args = args in
-    let pre = pre in
     (omega arith, omega arith, omega (arith, records-room (2 * args .half) (args .work .now) (args .i + 1) (omega arith) (pre .0 .room)), refl)
 
 mul-size : tie.Need-mul-size
@@ -62,16 +54,6 @@ returns c =
     let fetch = c .before .before .before .before .before .before .before .before .before .fetch in
     let fetch2 = c .before .before .before .before .before .before .fetch2 in
     let resolve-tested = c .before .before .resolve-tested in
-    let args = args in
-    let pre = pre in
-    let fetch = fetch in
-    let fetch2 = fetch2 in
-    let resolve-tested = resolve-tested in
-    let args = args in
-    let pre = pre in
-    let fetch = fetch in
-    let fetch2 = fetch2 in
-    let resolve-tested = resolve-tested in
     let half = args .half in
     let work = args .work .now in
     let i = args .i in

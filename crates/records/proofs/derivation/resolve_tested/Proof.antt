@@ -4,7 +4,7 @@ use mathlib.Core.Bool.{true, false}
 use native.Mathlib.Omega.{arith}
 use borrow.Author.Tests.{not-true, not-false}
 use Rattle.records.specs.Inside.{pivotNumber}
-use Rattle.records.proofs.ClauseLaws.{holds-has, holds-past}
+use Rattle.records.proofs.ClauseLaws.{holds-tested, holds-past}
 use Rattle.records.proofs.InsideLaws.{pivot-refused}
 use borrow.Author.Needs.{needs}
 use Rattle.records.proofs.derivation.resolve_tested.Statement.{statement}
@@ -17,8 +17,6 @@ returns : tie.Need-returns
 unfolding pivotNumber
 returns c =
     let args = c .before .before .args in
-    let args = args in
-    let args = args in
     pivot-refused _ _ _ _ _ 9 (omega arith) (rw (holds-past (args .half) (args .left .now) true (args .pivot) (c .if1 .taken)) refl)
 
 has-literal-requires : tie.Need-has-literal-requires
@@ -30,14 +28,8 @@ returns-2 c =
     let args = c .before .before .before .before .before .args in
     let if1 = c .before .before .before .if1 in
     let has-literal = c .before .has-literal in
-    let args = args in
-    let if1 = if1 in
-    let has-literal = has-literal in
-    let args = args in
-    let if1 = if1 in
-    let has-literal = has-literal in
     pivot-refused _ _ _ _ _ 9 (omega arith)
-    (rw (holds-has (args .half) (args .left .now) true (args .pivot) (if1 .left) ∙ sym (has-literal .ensures) ∙ not-true (has-literal .result) (c .if2 .taken)) refl)
+    (rw (holds-tested (args .half) (args .left .now) true (args .pivot) _ _ (if1 .left) (has-literal .ensures) (not-true (has-literal .result) (c .if2 .taken))) refl)
 
 add-has-literal : tie.Need-add-has-literal
 add-has-literal c = search needs
@@ -53,20 +45,10 @@ returns-3 c =
     let has-literal = c .before .before .before .before .has-literal in
     let if2 = c .before .before .before .if2 in
     let has-literal2 = c .before .has-literal2 in
-    let args = args in
-    let if1 = if1 in
-    let has-literal = has-literal in
-    let if2 = if2 in
-    let has-literal2 = has-literal2 in
-    let args = args in
-    let if1 = if1 in
-    let has-literal = has-literal in
-    let if2 = if2 in
-    let has-literal2 = has-literal2 in
     pivot-refused _ _ _ _ _ 10 (omega arith)
     (rw (
-      holds-has (args .half) (args .left .now) true (args .pivot) (if1 .left) ∙ sym (has-literal .ensures) ∙ not-false (has-literal .result) (if2 .left),
-      holds-has (args .half) (args .right .now) false (args .pivot) (if1 .left) ∙ sym (has-literal2 .ensures) ∙ not-true (has-literal2 .result) (c .if3 .taken),
+      holds-tested (args .half) (args .left .now) true (args .pivot) _ _ (if1 .left) (has-literal .ensures) (not-false (has-literal .result) (if2 .left)),
+      holds-tested (args .half) (args .right .now) false (args .pivot) _ _ (if1 .left) (has-literal2 .ensures) (not-true (has-literal2 .result) (c .if3 .taken)),
     ) refl)
 
 resolve-halves-requires : tie.Need-resolve-halves-requires
@@ -85,24 +67,10 @@ returns-4 c =
     let has-literal2 = c .before .before .before .before .before .before .before .has-literal2 in
     let if3 = c .before .before .before .before .before .before .if3 in
     let resolve-halves = c .before .before .resolve-halves in
-    let args = args in
-    let if1 = if1 in
-    let has-literal = has-literal in
-    let if2 = if2 in
-    let has-literal2 = has-literal2 in
-    let if3 = if3 in
-    let resolve-halves = resolve-halves in
-    let args = args in
-    let if1 = if1 in
-    let has-literal = has-literal in
-    let if2 = if2 in
-    let has-literal2 = has-literal2 in
-    let if3 = if3 in
-    let resolve-halves = resolve-halves in
     record {
       number = rw (
-        holds-has (args .half) (args .left .now) true (args .pivot) (if1 .left) ∙ sym (has-literal .ensures) ∙ not-false (has-literal .result) (if2 .left),
-        holds-has (args .half) (args .right .now) false (args .pivot) (if1 .left) ∙ sym (has-literal2 .ensures) ∙ not-false (has-literal2 .result) (if3 .left),
+        holds-tested (args .half) (args .left .now) true (args .pivot) _ _ (if1 .left) (has-literal .ensures) (not-false (has-literal .result) (if2 .left)),
+        holds-tested (args .half) (args .right .now) false (args .pivot) _ _ (if1 .left) (has-literal2 .ensures) (not-false (has-literal2 .result) (if3 .left)),
       ) refl;
       good = λ z. resolve-halves .ensures;
       bad = λ n. absurd (n refl);

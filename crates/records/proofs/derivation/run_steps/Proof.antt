@@ -52,12 +52,6 @@ take-step-requires c κs =
     let args = c .before .before .before .before .before .before .before .before .args in
     let loop = c .before .before .before .loop in
     let pre = c .before .before .before .before .before .before .before .before .pre in
-    let args = args in
-    let loop = loop in
-    let pre = pre in
-    let args = args in
-    let loop = loop in
-    let pre = pre in
     let inside = within (2 * args .half) (loop .i) (stepCount (args .steps .now)) (omega arith) in (
       record {
         half-least = omega arith;
@@ -77,14 +71,6 @@ returns c =
     let args = c .before .before .before .before .before .before .before .before .before .before .before .before .args in
     let loop = c .before .before .before .before .before .before .before .loop in
     let read-step = c .before .before .before .before .before .read-step in
-    let take-step = take-step in
-    let args = args in
-    let loop = loop in
-    let read-step = read-step in
-    let take-step = take-step in
-    let args = args in
-    let loop = loop in
-    let read-step = read-step in
     rw (take-step .ensures .bad (c .if1 .taken))
     (bad-run (args .half) (args .a .now) (args .b .now) (stepAt (args .steps .now)) (args .work .now) (loop .work) (loop .i) (take-step .result) (loop .inv .2)
     (rw (← read-is (args .steps .now) (loop .i) (read-step .result) (read-step .ensures)) (take-step .ensures .number)) _ (omega arith) (loop .inv .3) (c .if1 .taken))
@@ -101,14 +87,6 @@ loop-again c =
     let loop = c .before .before .before .before .before .before .before .loop in
     let read-step = c .before .before .before .before .before .read-step in
     let take-step = c .before .before .before .take-step in
-    let args = args in
-    let loop = loop in
-    let read-step = read-step in
-    let take-step = take-step in
-    let args = args in
-    let loop = loop in
-    let read-step = read-step in
-    let take-step = take-step in
     let good = c .if1 .left in
     let read = read-is (args .steps .now) (loop .i) (read-step .result) (read-step .ensures) in (
       omega arith,
@@ -125,10 +103,6 @@ returns-2 : tie.Need-returns-2 Inv-loop μ-loop
 returns-2 c =
     let loop = c .before .loop in
     let args = c .before .before .before .before .before .before .args in
-    let loop = loop in
-    let args = args in
-    let loop = loop in
-    let args = args in
     let all : loop .i ≡ stepCount (args .steps .now) = omega arith in
     good-run (args .half) (args .a .now) (args .b .now) (stepAt (args .steps .now)) (args .work .now) (loop .work) _ (loop .inv .2 ∙ ap (workAfter (args .half) (args .a .now) (args .b .now) (stepAt (args .steps .now)) (args .work .now)) all)
     (λ j l. loop .inv .3 j (omega arith))

@@ -14,10 +14,6 @@ returns : tie.Need-returns
 returns c =
     let pre = c .before .before .before .before .before .pre in
     let test-order = c .before .test-order in
-    let pre = pre in
-    let test-order = test-order in
-    let pre = pre in
-    let test-order = test-order in
     record {
       number = rw (← pre .1) (test-order .ensures .bad (c .if1 .taken) _ _ _ _);
       good = λ z. absurd (c .if1 .taken z);
@@ -29,12 +25,6 @@ resolve-step-requires c κs =
     let pre = c .before .before .before .before .before .before .pre in
     let test-order = c .before .before .test-order in
     let if1 = c .before .if1 in
-    let pre = pre in
-    let test-order = test-order in
-    let if1 = if1 in
-    let pre = pre in
-    let test-order = test-order in
-    let if1 = if1 in
     (pre .0, (omega (arith, test-order .ensures .left-earlier (if1 .left)), omega (arith, test-order .ensures .right-earlier (if1 .left))))
 
 same-length : tie.Need-same-length
@@ -48,16 +38,6 @@ returns-2 c =
     let args = c .before .before .before .before .before .before .before .before .before .args in
     let test-order = c .before .before .before .before .before .test-order in
     let if1 = c .before .before .before .before .if1 in
-    let resolve-step = resolve-step in
-    let pre = pre in
-    let args = args in
-    let test-order = test-order in
-    let if1 = if1 in
-    let resolve-step = resolve-step in
-    let pre = pre in
-    let args = args in
-    let test-order = test-order in
-    let if1 = if1 in
     record {
       number = resolve-step .ensures .number ∙ rw (← pre .1) (pivot-number _ _ (args .own) _ (args .step) (test-order .ensures .zeros (if1 .left)) (test-order .ensures .left-earlier (if1 .left)) (test-order .ensures .right-earlier (if1 .left)));
       good = resolve-step .ensures .good;

@@ -10,28 +10,18 @@ use Rattle.records.proofs.derivation.test_order.Tie as tie
 returns : tie.Need-returns
 returns c =
     let args = c .before .args in
-    let args = args in
-    let args = args in
     order-refused _ _ _ _ 7 (omega arith) (λ h clause i p. spare-fails h clause _ i _ (not-true (args .spare) (c .if1 .taken)))
 
 returns-2 : tie.Need-returns-2
 returns-2 c =
     let args = c .before .before .args in
     let if1 = c .before .if1 in
-    let args = args in
-    let if1 = if1 in
-    let args = args in
-    let if1 = if1 in
     order-refused _ _ _ _ 8 (omega arith) (λ h clause i p. left-late h clause _ i _ (not-false (args .spare) (if1 .left)) (omega (arith, c .if2 .taken)))
 
 returns-3 : tie.Need-returns-3
 returns-3 c =
     let args = c .before .before .before .args in
     let if1 = c .before .before .if1 in
-    let args = args in
-    let if1 = if1 in
-    let args = args in
-    let if1 = if1 in
     order-refused _ _ _ _ 8 (omega arith) (λ h clause i p. right-late h clause _ i _ (not-false (args .spare) (if1 .left)) (omega (arith, c .if3 .taken)))
 
 returns-4 : tie.Need-returns-4
@@ -39,12 +29,6 @@ returns-4 c =
     let args = c .before .before .before .args in
     let if1 = c .before .before .if1 in
     let if2 = c .before .if2 in
-    let args = args in
-    let if1 = if1 in
-    let if2 = if2 in
-    let args = args in
-    let if1 = if1 in
-    let if2 = if2 in
     record {
       bad = λ n. absurd (n refl);
       zeros = λ z. not-false (args .spare) (if1 .left);

@@ -11,8 +11,6 @@ shared-slice-read-result c = search needs
 cast-result : tie.Need-cast-result
 cast-result c =
     let args = c .before .args in
-    let args = args in
-    let args = args in
     omega (arith, c .shared-slice-known .given (args .at))
 
 add-result : tie.Need-add-result
@@ -24,25 +22,17 @@ shared-slice-read-result-2 c = search needs
 cast-result-2 : tie.Need-cast-result-2
 cast-result-2 c =
     let args = c .before .before .args in
-    let args = args in
-    let args = args in
     omega (arith, c .shared-slice-known2 .given (args .at + 1))
 
 mul-result : tie.Need-mul-result
 mul-result c =
     let args = c .before .before .args in
-    let args = args in
-    let args = args in
     omega (arith, c .shared-slice-known2 .given (args .at + 1))
 
 add-result-2 : tie.Need-add-result-2
 add-result-2 c =
     let shared-slice-known = c .before .shared-slice-known in
     let args = c .before .before .args in
-    let shared-slice-known = shared-slice-known in
-    let args = args in
-    let shared-slice-known = shared-slice-known in
-    let args = args in
     omega (arith, shared-slice-known .given (args .at), c .shared-slice-known2 .given (args .at + 1))
 
 returns : tie.Need-returns

@@ -17,8 +17,6 @@ returns : tie.Need-returns
 unfolding stepAt
 returns c =
     let record-of = c .before .record-of in
-    let record-of = record-of in
-    let record-of = record-of in
     let none = short-record 8 _ _ (subst (λ l. length l < 8) (record-of .ensures) (c .if1 .taken)) in
     record {
       left = rw none refl;
@@ -54,12 +52,6 @@ returns-2 c =
     let record-of = c .before .before .before .before .before .before .before .record-of in
     let pair = c .before .before .before .before .before .pair in
     let pair2 = c .before .before .before .before .pair2 in
-    let record-of = record-of in
-    let pair = pair in
-    let pair2 = pair2 in
-    let record-of = record-of in
-    let pair = pair in
-    let pair2 = pair2 in
     let s = record-of .result .now in
     record {
       left = rw (← record-of .ensures) (pair .ensures);

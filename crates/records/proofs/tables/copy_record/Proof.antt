@@ -40,10 +40,6 @@ loop-again : tie.Need-loop-again Inv-loop μ-loop
 loop-again c =
     let loop = c .before .before .loop in
     let args = c .before .before .before .args in
-    let loop = loop in
-    let args = args in
-    let loop = loop in
-    let args = args in
     let here : loop .i < length (loop .part) = omega arith in (
       omega arith,
       simp length-set (loop .inv .1),
@@ -56,12 +52,6 @@ returns c =
     let args = c .before .before .args in
     let pre = c .before .before .pre in
     let loop = c .before .loop in
-    let args = args in
-    let pre = pre in
-    let loop = loop in
-    let args = args in
-    let pre = pre in
-    let loop = loop in
     let size = record-size _ (args .table .now) _ (pre .0) (pre .2) in
     let part = length-take-le (args .size) (loop .part) (omega arith) in
     ext-getD 0 _ _ (part ∙ sym size)

@@ -32,19 +32,11 @@ mul-start c =
     let args = c .before .before .args in
     let records = c .before .records in
     let pre = c .before .before .pre in
-    let args = args in
-    let records = records in
-    let pre = pre in
-    let args = args in
-    let records = records in
-    let pre = pre in
     omega (arith, whole (args .size) (length (args .table .now)) (records .r) (pre .0) (omega arith))
 
 loop-holds : tie.Need-loop-holds Inv-loop μ-loop Inv-records μ-records
 loop-holds c =
     let pre = c .before .before .pre in
-    let pre = pre in
-    let pre = pre in
     (refl, omega arith, whole _ _ _ (pre .0) (omega arith), λ k l. absurd (omega arith))
 
 add-if1 : tie.Need-add-if1 Inv-loop μ-loop Inv-records μ-records
@@ -64,12 +56,6 @@ records-again c =
     let loop = c .before .before .before .loop in
     let args = c .before .before .before .before .before .before .args in
     let records = c .before .before .before .before .before .records in
-    let loop = loop in
-    let args = args in
-    let records = records in
-    let loop = loop in
-    let args = args in
-    let records = records in
     let e = loop .inv .0 in (
       omega arith,
       subst (λ m. (k : ℕ) → k < m + 1 → empty (recordAt (args .size) (args .table .now) k) ≡ false) (sym e)
@@ -85,16 +71,12 @@ loop-less c = omega arith
 loop-again : tie.Need-loop-again Inv-loop μ-loop Inv-records μ-records
 loop-again c =
     let loop = c .before .before .before .loop in
-    let loop = loop in
-    let loop = loop in
     (loop .inv .0, omega arith, loop .inv .2, below-more _ _ (loop .inv .3) (c .if1 .left))
 
 returns : tie.Need-returns Inv-loop μ-loop Inv-records μ-records
 unfolding firstEmpty
 returns c =
     let records = c .before .records in
-    let records = records in
-    let records = records in
     first-is _ _ _ (omega arith) (records .inv .1) (λ l. absurd (omega arith))
 
 returns-2 : tie.Need-returns-2 Inv-loop μ-loop Inv-records μ-records
@@ -102,10 +84,6 @@ unfolding firstEmpty
 returns-2 c =
     let loop = c .before .loop in
     let records = c .before .before .before .records in
-    let loop = loop in
-    let records = records in
-    let loop = loop in
-    let records = records in
     loop .inv .0 ∙ first-is _ _ _ (omega arith) (records .inv .1) (λ l. record-empty _ _ _ (loop .inv .2) (λ i m. loop .inv .3 i (omega arith)))
 
 pub first-empty-of-spec : {M : Type 1} → statement M

@@ -37,10 +37,6 @@ loop-again : tie.Need-loop-again Inv-loop μ-loop
 loop-again c =
     let loop = c .before .before .before .loop in
     let args = c .before .before .before .before .args in
-    let loop = loop in
-    let args = args in
-    let loop = loop in
-    let args = args in
     let here : loop .i < length (loop .to) = omega arith in (
       omega arith,
       simp length-set (loop .inv .1),
@@ -55,8 +51,6 @@ same-length c = search needs
 returns : tie.Need-returns Inv-loop μ-loop
 returns c =
     let loop = c .before .loop in
-    let loop = loop in
-    let loop = loop in
     joined-is _ _ _ (omega arith) (λ k l. loop .inv .2 k (omega arith))
 
 pub join-spec : {M : Type 1} → statement M

@@ -26,28 +26,18 @@ div-n c = omega arith
 loop-holds : tie.Need-loop-holds Inv-loop μ-loop
 loop-holds c =
     let pre = c .before .before .pre in
-    let pre = pre in
-    let pre = pre in
     (omega arith, refl, ap length (pre .2) ∙ length-bytesOf _ _, pre .2 ∙ no-literals _ _)
 
 mul-start : tie.Need-mul-start Inv-loop μ-loop
 mul-start c =
     let args = c .before .before .before .before .args in
     let loop = c .before .loop in
-    let args = args in
-    let loop = loop in
-    let args = args in
-    let loop = loop in
     omega (arith, whole (2 * args .half) (length (args .table .now)) (loop .r) (omega arith) (omega arith))
 
 add-end : tie.Need-add-end Inv-loop μ-loop
 add-end c =
     let args = c .before .before .before .before .args in
     let loop = c .before .loop in
-    let args = args in
-    let loop = loop in
-    let args = args in
-    let loop = loop in
     omega (arith, whole (2 * args .half) (length (args .table .now)) (loop .r) (omega arith) (omega arith))
 
 sub-join : tie.Need-sub-join Inv-loop μ-loop
@@ -60,28 +50,18 @@ part-join-end : tie.Need-part-join-end Inv-loop μ-loop
 part-join-end c =
     let args = c .before .before .before .before .args in
     let loop = c .before .loop in
-    let args = args in
-    let loop = loop in
-    let args = args in
-    let loop = loop in
     omega (arith, whole (2 * args .half) (length (args .table .now)) (loop .r) (omega arith) (omega arith))
 
 join-requires : tie.Need-join-requires Inv-loop μ-loop
 join-requires c κs =
     let args = c .before .before .before .before .before .before .args in
     let loop = c .before .before .before .loop in
-    let args = args in
-    let loop = loop in
-    let args = args in
-    let loop = loop in
     let h = whole (2 * args .half) (length (args .table .now)) (loop .r) (omega arith) (omega arith) in
     rw (recordAt-part (2 * args .half) (args .table .now) (loop .r) h) (loop .inv .2 ∙ sym (length-recordAt (2 * args .half) (args .table .now) (loop .r) h))
 
 add-r : tie.Need-add-r Inv-loop μ-loop
 add-r c =
     let args = c .before .before .before .before .before .before .before .before .before .args in
-    let args = args in
-    let args = args in
     omega (arith, div-le-self (length (args .table .now)) (2 * args .half))
 
 loop-less : tie.Need-loop-less Inv-loop μ-loop
@@ -93,14 +73,6 @@ loop-again c =
     let loop = c .before .before .before .before .before .before .loop in
     let join = c .before .before .join in
     let shared-slice-known = c .before .before .before .before .before .before .before .before .shared-slice-known in
-    let args = args in
-    let loop = loop in
-    let join = join in
-    let shared-slice-known = shared-slice-known in
-    let args = args in
-    let loop = loop in
-    let join = join in
-    let shared-slice-known = shared-slice-known in
     let h = whole (2 * args .half) (length (args .table .now)) (loop .r) (omega arith) (omega arith) in
     let one = join .ensures ∙ ap₂ joined (recordAt-part (2 * args .half) (args .table .now) (loop .r) h) (loop .inv .3) in
     let more = one ∙ more-literals (args .half) (args .table .now) (loop .r) (bytes-recordAt _ _ _ (λ i. omega (arith, shared-slice-known .given i))) in
@@ -114,10 +86,6 @@ returns : tie.Need-returns Inv-loop μ-loop
 returns c =
     let loop = c .before .loop in
     let args = c .before .before .before .before .args in
-    let loop = loop in
-    let args = args in
-    let loop = loop in
-    let args = args in
     loop .inv .3 ∙ ap (λ m. literalsBefore (args .half) (args .table .now) m) (omega arith) ∙ all-literals _ _
 
 pub join-all-spec : {M : Type 1} → statement M

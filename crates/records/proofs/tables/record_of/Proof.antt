@@ -12,15 +12,11 @@ div-if1 c = search needs
 mul-start : tie.Need-mul-start
 mul-start c =
     let pre = c .before .pre in
-    let pre = pre in
-    let pre = pre in
     omega (arith, whole _ _ _ pre (c .if1 .taken))
 
 add-end : tie.Need-add-end
 add-end c =
     let pre = c .before .pre in
-    let pre = pre in
-    let pre = pre in
     omega (arith, whole _ _ _ pre (c .if1 .taken))
 
 sub-result : tie.Need-sub-result
@@ -32,8 +28,6 @@ part-result-start c = search needs
 part-result-end : tie.Need-part-result-end
 part-result-end c =
     let pre = c .before .pre in
-    let pre = pre in
-    let pre = pre in
     omega (arith, whole _ _ _ pre (c .if1 .taken))
 
 slice-aggregate-result : tie.Need-slice-aggregate-result
@@ -43,20 +37,12 @@ returns : tie.Need-returns
 returns c =
     let pre = c .before .before .pre in
     let if1 = c .before .if1 in
-    let pre = pre in
-    let if1 = if1 in
-    let pre = pre in
-    let if1 = if1 in
     recordAt-part _ _ _ (whole _ _ _ pre (if1 .taken))
 
 returns-2 : tie.Need-returns-2
 returns-2 c =
     let pre = c .before .before .pre in
     let if1 = c .before .if1 in
-    let pre = pre in
-    let if1 = if1 in
-    let pre = pre in
-    let if1 = if1 in
     sym (recordAt-out _ _ _ (past _ _ _ pre (if1 .left)))
 
 pub record-of-spec : {M : Type 1} → statement M

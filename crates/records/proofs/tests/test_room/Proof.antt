@@ -12,16 +12,12 @@ returns : tie.Need-returns
 unfolding roomTests firstFailed
 returns c =
     let args = c .before .args in
-    let args = args in
-    let args = args in
     rw (lt-leb (64 * (length (args .steps .now) / 8)) (length (args .work .now)) (omega arith)) (record { number = refl; place = refl })
 
 returns-2 : tie.Need-returns-2
 unfolding roomTests firstFailed
 returns-2 c =
     let args = c .before .args in
-    let args = args in
-    let args = args in
     rw (le-leb (64 * (length (args .steps .now) / 8)) (length (args .work .now)) (omega arith)) (record { number = refl; place = refl })
 
 pub test-room-spec : {M : Type 1} → statement M

@@ -18,16 +18,12 @@ returns : tie.Need-returns
 unfolding tableTests firstFailed
 returns c =
     let args = c .before .args in
-    let args = args in
-    let args = args in
     rw (ne-eqb (length (args .a .now) % 64) 0 (λ e. c .if1 .taken (omega arith))) (record { number = refl; place = refl })
 
 returns-2 : tie.Need-returns-2
 unfolding tableTests firstFailed
 returns-2 c =
     let args = c .before .before .args in
-    let args = args in
-    let args = args in
     rw (
       eq-eqb (length (args .a .now) % 64) 0 (omega arith),
       ne-eqb (length (args .b .now) % 64) 0 (λ e. c .if2 .taken (omega arith)),
@@ -37,8 +33,6 @@ returns-3 : tie.Need-returns-3
 unfolding tableTests firstFailed
 returns-3 c =
     let args = c .before .before .before .args in
-    let args = args in
-    let args = args in
     rw (
       eq-eqb (length (args .a .now) % 64) 0 (omega arith),
       eq-eqb (length (args .b .now) % 64) 0 (omega arith),
@@ -55,8 +49,6 @@ returns-4 : tie.Need-returns-4
 unfolding tableTests firstFailed
 returns-4 c =
     let args = c .before .before .before .before .args in
-    let args = args in
-    let args = args in
     rw (
       eq-eqb (length (args .a .now) % 64) 0 (omega arith),
       eq-eqb (length (args .b .now) % 64) 0 (omega arith),
@@ -68,8 +60,6 @@ returns-5 : tie.Need-returns-5
 unfolding tableTests firstFailed
 returns-5 c =
     let args = c .before .before .before .before .args in
-    let args = args in
-    let args = args in
     rw (
       eq-eqb (length (args .a .now) % 64) 0 (omega arith),
       eq-eqb (length (args .b .now) % 64) 0 (omega arith),
