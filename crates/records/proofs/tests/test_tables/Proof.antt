@@ -1,18 +1,25 @@
 -- `records::tests::test_tables` meets its contract: each refusal is the first test that fails. Assumes nothing.
 use Prim.Native.Nat.{ℕ, _+_, _/_, _%_}
-use mathlib.Core.Path.{refl}
-use mathlib.Core.List.{List}
+use mathlib.Core.Path.{_≡_, refl}
+use mathlib.Core.List.{List, [], _∷_}
 use native.Mathlib.Omega.{arith}
 use borrow.Author.Needs.{needs}
 use borrow.Author.Tests.{lt-leb, le-leb, eq-eqb, ne-eqb}
+use lib.Dec.{leb}
 use lib.ListN.{length}
-use Rattle.records.specs.Tests.{firstFailed, tableTests}
+use Rattle.records.specs.Tests.{test, firstFailed, tableTests}
 use Rattle.records.proofs.tests.test_tables.Statement.{statement}
 use Rattle.records.proofs.tests.test_tables.Tie as tie
 
 -- how many clauses there are, results counted
 abbrev count : List ℕ → List ℕ → List ℕ → ℕ
 count a b steps = length a / 64 + length b / 64 + length steps / 8
+
+-- where the lengths are whole the number of clauses decides
+past-lengths : (a b steps : List ℕ) → length a % 64 ≡ 0 → length b % 64 ≡ 0 → length steps % 8 ≡ 0
+    → firstFailed (tableTests 32 1024 a b steps) ≡ firstFailed (test (leb (count a b steps) 1024) 4 0 ∷ [])
+unfolding tableTests firstFailed
+past-lengths a b steps ea eb es = rw (eq-eqb (length a % 64) 0 ea, eq-eqb (length b % 64) 0 eb, eq-eqb (length steps % 8) 0 es) refl
 
 returns : tie.Need-returns
 unfolding tableTests firstFailed
@@ -46,24 +53,20 @@ add-if4-2 : tie.Need-add-if4-2
 add-if4-2 c = search needs
 
 returns-4 : tie.Need-returns-4
-unfolding tableTests firstFailed
+unfolding firstFailed
 returns-4 c =
     let args = c .before .before .before .before .args in
     rw (
-      eq-eqb (length (args .a .now) % 64) 0 (omega arith),
-      eq-eqb (length (args .b .now) % 64) 0 (omega arith),
-      eq-eqb (length (args .steps .now) % 8) 0 (omega arith),
+      past-lengths (args .a .now) (args .b .now) (args .steps .now) (omega arith) (omega arith) (omega arith),
       lt-leb (count (args .a .now) (args .b .now) (args .steps .now)) 1024 (omega arith),
     ) (record { number = refl; place = refl })
 
 returns-5 : tie.Need-returns-5
-unfolding tableTests firstFailed
+unfolding firstFailed
 returns-5 c =
     let args = c .before .before .before .before .args in
     rw (
-      eq-eqb (length (args .a .now) % 64) 0 (omega arith),
-      eq-eqb (length (args .b .now) % 64) 0 (omega arith),
-      eq-eqb (length (args .steps .now) % 8) 0 (omega arith),
+      past-lengths (args .a .now) (args .b .now) (args .steps .now) (omega arith) (omega arith) (omega arith),
       le-leb (count (args .a .now) (args .b .now) (args .steps .now)) 1024 (omega arith),
     ) (record { number = refl; place = refl })
 
