@@ -22,12 +22,12 @@ pub check-unique : (a b steps work gates last last′ left left′ : List ℕ) (
     → Checks (plainChecked 32 1024 a b steps work gates) r last left → Checks (plainChecked 32 1024 a b steps work gates) r′ last′ left′ → (r ≡ r′) × (last ≡ last′) × (left ≡ left′)
 check-unique a b steps work gates last last′ left left′ r r′ p q = (
   λ j.
-  record {
-    number = same (p .number) (q .number) j;
-    place = same (p .place) (q .place) j;
-    root = same (p .root) (q .root) j;
-    count = same (p .count) (q .count) j;
-  },
+      record {
+        number = same (p .number) (q .number) j;
+        place = same (p .place) (q .place) j;
+        root = same (p .root) (q .root) j;
+        count = same (p .count) (q .count) j;
+      },
   same (p .work) (q .work),
   same (p .gates) (q .gates),
 )
