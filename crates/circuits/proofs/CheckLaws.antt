@@ -46,7 +46,7 @@ pub refusal-answers : (o : Outcome) (gates : List ℕ) (next : Checked) → (o .
 refusal-answers o gates next n = rw (ne-eqb (o .number) 0 n) refl
 
 module _ (h most : ℕ) (a b steps work gates : List ℕ) where
-  tests-refuse : (v : Verdict) → firstFailed (plainTests h most a b steps work gates) ≡ v → (v .number ≡ 0 → ⊥) → plainChecked h most a b steps work gates ≡ refusal (judged v work) gates
+  pub tests-refuse : (v : Verdict) → firstFailed (plainTests h most a b steps work gates) ≡ v → (v .number ≡ 0 → ⊥) → plainChecked h most a b steps work gates ≡ refusal (judged v work) gates
   unfolding plainChecked
   tests-refuse v e n = rw e (refusal-answers (judged v work) gates _ n)
 

@@ -6,7 +6,7 @@ use mathlib.Core.List.{List, []}
 use mathlib.Core.Logic.{_⊎_, inl, inr, ⊎-elim, ⊎-map, by-cases}
 use native.Mathlib.Decide.{decLt}
 use native.Mathlib.Omega.{arith}
-use borrow.Author.Tests.{eq-eqb, eqb-true, eqb-false, le-leb, leb-true, lt-ltb, ltb-true}
+use borrow.Author.Tests.{eq-eqb, eqb-true, eqb-false, le-leb, lt-ltb, ltb-true}
 use lib.Dec.{eqb, ltb}
 use lib.ListN.{length}
 use Rattle.records.specs.declared.steps.Step.{Step}
@@ -20,7 +20,7 @@ use Rattle.records.proofs.NumberLaws.{strong, in-parts}
 use Rattle.records.proofs.ListLaws.{first-le, first-holds, first-before, first-found}
 use Rattle.records.proofs.ClauseLaws.{holds-bound, holds-resolvent}
 use Rattle.records.proofs.TableLaws.{some-clause, which-clause, occurs-here}
-use Rattle.records.proofs.TestLaws.{passed-none, none-passed, refused-not, not-refused, tables-numbered, room-numbered, step-numbered, root-numbered}
+use Rattle.records.proofs.TestLaws.{passed-none, none-passed, pass-sizes, refused-not, not-refused, tables-numbered, room-numbered, step-numbered, root-numbered}
 use Rattle.records.proofs.DerivationLaws.{clause-a, clause-b, ends-at, verdict-stopped, verdict-ended}
 use Rattle.records.proofs.WorkLaws.{clause-kept, result-is}
 use Rattle.records.proofs.MeaningLaws.{empty-holds}
@@ -157,7 +157,7 @@ fromRoom h a b steps work = andThen (judged (firstFailed (roomTests h steps work
 module _ (h most : ℕ) (a b steps work : List ℕ) where
   -- the answer 0 comes where all tests pass, and only there
   zero-needs : derived h most a b steps work .number ≡ 0 → Complete h most a b steps work
-  unfolding derived ran tableTests roomTests
+  unfolding derived ran
   zero-needs e =
       let first = sequence (judged (firstFailed (tableTests h most a b steps)) work) (fromRoom h a b steps) e in
       let second = sequence (judged (firstFailed (roomTests h steps work)) work) (fromSteps h a b steps) (first .1) in
@@ -166,14 +166,7 @@ module _ (h most : ℕ) (a b steps work : List ℕ) where
       let enough = none-passed (roomTests h steps work) (room-numbered h steps work) (second .0) in
       let all : stopAt h a b (stepAt steps) work (stepCount steps) ≡ stepCount steps = none-refused h a b (stepAt steps) work (stepCount steps) (third .0) in
       record {
-        sizes =
-            record {
-              a-whole = eqb-true (length a % (2 * h)) 0 (tables .0);
-              b-whole = eqb-true (length b % (2 * h)) 0 (tables .1 .0);
-              steps-whole = eqb-true (length steps % 8) 0 (tables .1 .1 .0);
-              few = leb-true (clauseCount h a b steps) most (tables .1 .1 .1 .0);
-              room = leb-true (2 * h * stepCount steps) (length work) (enough .0);
-            };
+        sizes = pass-sizes h most a b steps work tables enough;
         ended = all;
         found = root-below h a b (stepCount steps) (lastWork h a b steps work) (rw all at (third .1));
       }

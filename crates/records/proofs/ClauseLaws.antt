@@ -15,7 +15,7 @@ use lib.Pow.{pow-lt}
 use lib.Bits.{bitAnd, bitOr, and-le-l, or-lt}
 use Rattle.records.specs.Bits.{bitOf, numberOf}
 use Rattle.records.specs.Lists.{every}
-use Rattle.records.specs.Clause.{has, literal, holds, bytesOf, without, resolved, resolvent, resolvedInto, empty}
+use Rattle.records.specs.Clause.{has, literal, holds, bytesOf, resolved, resolvent, resolvedInto, empty}
 use Rattle.records.specs.Inside.{allBut, joined}
 use Rattle.records.proofs.BitLaws.{bit-and, bit-or, bit-numberOf, numberOf-lt, numberOf-same, bits-ext, zero-bit, bit-not, bit-pow, test-bit}
 use Rattle.records.proofs.ListLaws.{length-tabulate, getD-tabulate}

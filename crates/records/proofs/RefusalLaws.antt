@@ -11,7 +11,7 @@ use Rattle.records.specs.declared.tests.Verdict.{Verdict}
 use Rattle.records.specs.Clause.{empty}
 use Rattle.records.specs.Step.{stepAt, stepCount}
 use Rattle.records.specs.Tests.{firstFailed, refused, tableTests, roomTests, stepTests}
-use Rattle.records.specs.Derivation.{inputs, clauseAt, workAfter, verdictAt, stopAt, rootOf, Outcome, judged, andThen, ran, rooted, derived, clauseCount, lastWork, Sizes}
+use Rattle.records.specs.Derivation.{inputs, clauseAt, workAfter, verdictAt, stopAt, rootOf, Outcome, judged, andThen, ran, rooted, derived, Derives, clauseCount, lastWork, Sizes}
 use Rattle.records.proofs.ListLaws.{first-holds}
 use Rattle.records.proofs.TestLaws.{Passed, passed-none, sizes-pass, refused-not, refused-place, step-placed}
 use Rattle.records.proofs.DerivationLaws.{refusal-stands, next-decides, verdict-stopped, verdict-ended, root-missing}
@@ -67,11 +67,12 @@ module _ (h most : ℕ) (a b steps work : List ℕ) where
         ap (λ (o : Outcome). o .work) steps-decide
         ∙ stage-work (ran h a b (stepAt steps) (stepCount steps) work) (rooted h a b (stepCount steps)) (rooted-work h a b (stepCount steps))
 
-    -- a refusal names the first step that fails a test, with that test's number; or it is 11, and no clause is empty
+    -- a refusal names the first step that fails a test, with that test's number; or it is 11, all steps have run, and no clause is empty
     pub refused-why : (derived h most a b steps work .number ≡ 0 → ⊥)
         → ((i : ℕ) × (i < stepCount steps) × (i ≡ stopAt h a b (stepAt steps) work (stepCount steps)) × (derived h most a b steps work .place ≡ i)
         × (derived h most a b steps work .number ≡ verdictAt h a b (stepAt steps) work i .number))
-        ⊎ ((derived h most a b steps work .number ≡ 11) × ((k : ℕ) → k < clauseCount h a b steps → empty (clauseAt h a b (lastWork h a b steps work) k) ≡ false))
+        ⊎ ((stopAt h a b (stepAt steps) work (stepCount steps) ≡ stepCount steps) × (derived h most a b steps work .number ≡ 11) × (derived h most a b steps work .place ≡ 0)
+        × ((k : ℕ) → k < clauseCount h a b steps → empty (clauseAt h a b (lastWork h a b steps work) k) ≡ false))
     unfolding ran verdictAt rootOf firstFailed
     refused-why n = ⊎-elim (λ all. inr (ended all)) (λ t. inl (stopped (t .0) (t .1) (t .2) (t .3))) (stop-cases h a b (stepAt steps) work (stepCount steps))
       where
@@ -93,8 +94,9 @@ module _ (h most : ℕ) (a b steps work : List ℕ) where
             )
 
         ended : stopAt h a b (stepAt steps) work (stepCount steps) ≡ stepCount steps
-            → (derived h most a b steps work .number ≡ 11) × ((k : ℕ) → k < clauseCount h a b steps → empty (clauseAt h a b (lastWork h a b steps work) k) ≡ false)
-        ended all = (number, none)
+            → (stopAt h a b (stepAt steps) work (stepCount steps) ≡ stepCount steps) × (derived h most a b steps work .number ≡ 11) × (derived h most a b steps work .place ≡ 0)
+            × ((k : ℕ) → k < clauseCount h a b steps → empty (clauseAt h a b (lastWork h a b steps work) k) ≡ false)
+        ended all = (all, ap (λ (o : Outcome). o .number) reached ∙ sym (missing .number), ap (λ (o : Outcome). o .place) reached ∙ sym (missing .place), none)
           where
             none : (k : ℕ) → k < clauseCount h a b steps → empty (clauseAt h a b (lastWork h a b steps work) k) ≡ false
             none k l = not-eq-not .0 (λ e. n (root-suffices h most a b steps work sizes all k l e))
@@ -107,9 +109,10 @@ module _ (h most : ℕ) (a b steps work : List ℕ) where
             zero-steps : ran h a b (stepAt steps) (stepCount steps) work .number ≡ 0
             zero-steps = ap (λ (v : Verdict). v .number) (verdict-ended h a b (stepAt steps) work (stepCount steps) (sym all))
 
-            number : derived h most a b steps work .number ≡ 11
-            number =
-                ap (λ (o : Outcome). o .number)
-                (steps-decide ∙ next-decides (ran h a b (stepAt steps) (stepCount steps) work) (rooted h a b (stepCount steps)) zero-steps)
-                ∙ sym
-                (rw all (root-missing h a b (stepCount steps) (lastWork h a b steps work) (rootOf h a b (lastWork h a b steps work) (clauseCount h a b steps)) refl far .number))
+            reached : derived h most a b steps work ≡ rooted h a b (stepCount steps) (lastWork h a b steps work)
+            reached =
+                steps-decide ∙ next-decides (ran h a b (stepAt steps) (stepCount steps) work) (rooted h a b (stepCount steps)) zero-steps
+                ∙ ap (λ (i : ℕ). rooted h a b (stepCount steps) (workAfter h a b (stepAt steps) work i)) all
+
+            missing : Derives (rooted h a b (stepCount steps) (lastWork h a b steps work)) (lastWork h a b steps work) (record { number = 11; place = 0 })
+            missing = root-missing h a b (stepCount steps) (lastWork h a b steps work) (rootOf h a b (lastWork h a b steps work) (clauseCount h a b steps)) refl far

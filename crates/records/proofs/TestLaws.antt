@@ -4,7 +4,7 @@ use mathlib.Core.Path.{_≡_, refl, ap}
 use mathlib.Core.Bool.{Bool, true, false, not, cond, true≢false, and-false}
 use mathlib.Core.List.{List, [], _∷_, _++_}
 use native.Mathlib.Omega.{arith}
-use borrow.Author.Tests.{eq-eqb, ne-eqb, eqb-true, lt-ltb, le-ltb, le-leb}
+use borrow.Author.Tests.{eq-eqb, ne-eqb, eqb-true, lt-ltb, le-ltb, le-leb, leb-true}
 use lib.ListN.{length}
 use lib.Dec.{eqb, ltb}
 use Rattle.records.specs.declared.tests.Verdict.{Verdict}
@@ -132,13 +132,24 @@ after-refused (t ∷ ts) us n = go (t .passed) (after-refused ts us) n
     go true rest m = rest m
     go false rest m = refl
 
--- the limits pass tests 1 to 5
+-- the limits pass tests 1 to 5, and only they
 pub sizes-pass : (h most : ℕ) (a b steps work : List ℕ) → Sizes h most a b steps work → Passed (tableTests h most a b steps) × Passed (roomTests h steps work)
 unfolding tableTests roomTests
 sizes-pass h most a b steps work sizes = (
   (eq-eqb (length a % (2 * h)) 0 (sizes .a-whole), (eq-eqb (length b % (2 * h)) 0 (sizes .b-whole), (eq-eqb (length steps % 8) 0 (sizes .steps-whole), (le-leb (clauseCount h a b steps) most (sizes .few), tt)))),
   (le-leb (2 * h * stepCount steps) (length work) (sizes .room), tt),
 )
+
+pub pass-sizes : (h most : ℕ) (a b steps work : List ℕ) → Passed (tableTests h most a b steps) → Passed (roomTests h steps work) → Sizes h most a b steps work
+unfolding tableTests roomTests
+pass-sizes h most a b steps work tables room =
+    record {
+      a-whole = eqb-true (length a % (2 * h)) 0 (tables .0);
+      b-whole = eqb-true (length b % (2 * h)) 0 (tables .1 .0);
+      steps-whole = eqb-true (length steps % 8) 0 (tables .1 .1 .0);
+      few = leb-true (clauseCount h a b steps) most (tables .1 .1 .1 .0);
+      room = leb-true (2 * h * stepCount steps) (length work) (room .0);
+    }
 
 -- which test of a step fails first
 module _ (h : ℕ) (clause : ℕ → List ℕ) (own i : ℕ) (s : Step) where

@@ -1,5 +1,5 @@
 -- `records::derivation::resolve_tested` meets its contract: 9, 10, or the resolvent. Assumes nothing.
-use mathlib.Core.Path.{refl, sym, _∙_}
+use mathlib.Core.Path.{refl}
 use mathlib.Core.Bool.{true, false}
 use native.Mathlib.Omega.{arith}
 use borrow.Author.Tests.{not-true, not-false}
