@@ -1,6 +1,7 @@
 -- The laws of acceptance: an accepted check leaves the symmetric partial interpolants, and an evaluation refuses a malformed table and reads the truth value of any other.
 use Prim.Native.Nat.{ℕ, _*_}
 use mathlib.Core.Path.{_≡_, refl, sym, _∙_, subst}
+use mathlib.Core.Bool.{false}
 use mathlib.Core.List.{List, _++_}
 use native.Mathlib.Omega.{arith}
 use lib.ListN.{getD}
@@ -18,7 +19,7 @@ use Rattle.circuits.specs.Evaluate.{lengthTests, gatesTests, referenceTests, ev
 use Rattle.circuits.proofs.GateLaws.{bytes-written}
 use Rattle.circuits.proofs.CheckLaws.{PlainAccepted, plain-acceptance, circuit-left-is, count-is, gates-rest}
 use Rattle.circuits.proofs.EvaluateInsideLaws.{gates-numbered, lengths-numbered}
-use Rattle.demands.specs.Tables.{Tables, circuit, plainCheck}
+use Rattle.demands.specs.Tables.{Tables, pass, circuit, plainCheck}
 use Rattle.demands.specs.Formula.{Definition20, unfolded}
 use Rattle.demands.specs.Resolvents.{Resolvents}
 use Rattle.demands.specs.Acceptance.{build, formulaAt, Interpolants, Acceptance, Reads, Demand2}
@@ -93,13 +94,15 @@ pub reads : (h most : ℕ) → Reads h most (evaluated h most)
 unfolding evaluated
 reads h most =
     record {
-      refused = λ assignment table root e.
-          let tests = evaluationTests h most assignment table root in
-          rw (refused-is (firstFailed tests) (fails-refused tests (evaluation-numbered h most assignment table root) e)) refl;
+      refused = λ assignment table root e. rw (refused-is (firstFailed (evaluationTests h most assignment table root)) (some assignment table root e)) refl;
+      malformed = some;
       read = λ assignment table root e.
           let tests = evaluationTests h most assignment table root in
           rw (passed-none tests (pass-passed tests e), no-test, truth-unfolded (8 * h) (has assignment) (gatesOf table (records 8 table)) root) refl;
     }
+  where
+    some : (assignment table : List ℕ) (root : ℕ) → pass (evaluationTests h most assignment table root) ≡ false → firstFailed (evaluationTests h most assignment table root) .number ≡ 0 → ⊥
+    some assignment table root e = fails-refused (evaluationTests h most assignment table root) (evaluation-numbered h most assignment table root) e
 
 pub demand-2 : (h most limit : ℕ) → Demand2 h most limit (plainCheck h most) (evaluated h limit)
 demand-2 h most limit =

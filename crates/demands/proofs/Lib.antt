@@ -6,3 +6,4 @@ pub mod FormulaLaws
 pub mod AcceptanceLaws
 pub mod InterpolantLaws
 pub mod DemandLaws
+pub mod Determined

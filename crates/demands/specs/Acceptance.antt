@@ -59,7 +59,7 @@ pub record Acceptance (h most : ℕ) (t : Tables) (o : Checked) : Type 0 where
   pub root : Root h t o
   pub interpolants : Interpolants h t o
 
--- what evaluating is: a malformed table is refused by its first test that fails, and any other has its AND/OR value
+-- what evaluating is: a malformed table is refused, by its first test that fails, and any other has its AND/OR value
 pub record Reads (h most : ℕ) (evaluate : Evaluation) : Type 0 where
   pub refused : (assignment table : List ℕ) (root : ℕ) → pass (evaluationTests h most assignment table root) ≡ false
       → evaluate assignment table root
@@ -68,6 +68,7 @@ pub record Reads (h most : ℕ) (evaluate : Evaluation) : Type 0 where
         place = firstFailed (evaluationTests h most assignment table root) .place;
         value = 0;
       }
+  pub malformed : (assignment table : List ℕ) (root : ℕ) → pass (evaluationTests h most assignment table root) ≡ false → evaluate assignment table root .number ≡ 0 → ⊥
   pub read : (assignment table : List ℕ) (root : ℕ) → pass (evaluationTests h most assignment table root) ≡ true
       → evaluate assignment table root
       ≡ record { number = 0; place = 0; value = digit (truth (has assignment) (unfolded (8 * h) (gatesOf table (records 8 table)) root)) }
