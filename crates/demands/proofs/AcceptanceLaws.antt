@@ -1,10 +1,11 @@
 -- The laws of acceptance: an accepted check leaves the symmetric partial interpolants, and an evaluation refuses a malformed table and reads the truth value of any other.
 use Prim.Native.Nat.{ℕ, _*_}
-use mathlib.Core.Path.{_≡_, refl, sym, _∙_, subst}
-use mathlib.Core.Bool.{false}
+use mathlib.Core.Path.{_≡_, refl, sym, ap, _∙_, subst}
+use mathlib.Core.Bool.{Bool, false}
 use mathlib.Core.List.{List, _++_}
 use native.Mathlib.Omega.{arith}
 use lib.ListN.{getD}
+use Rattle.records.specs.Bits.{digit}
 use Rattle.records.specs.Clause.{has}
 use Rattle.records.specs.Table.{records}
 use Rattle.records.specs.Step.{stepAt, stepCount}
@@ -98,7 +99,8 @@ reads h most =
       malformed = some;
       read = λ assignment table root e.
           let tests = evaluationTests h most assignment table root in
-          rw (passed-none tests (pass-passed tests e), no-test, truth-unfolded (8 * h) (has assignment) (gatesOf table (records 8 table)) root) refl;
+          rw (passed-none tests (pass-passed tests e), no-test)
+          (ap (λ (x : Bool). record { number = 0; place = 0; value = digit x }) (sym (truth-unfolded (8 * h) (has assignment) (gatesOf table (records 8 table)) root)));
     }
   where
     some : (assignment table : List ℕ) (root : ℕ) → pass (evaluationTests h most assignment table root) ≡ false → firstFailed (evaluationTests h most assignment table root) .number ≡ 0 → ⊥

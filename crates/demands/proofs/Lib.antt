@@ -7,3 +7,5 @@ pub mod AcceptanceLaws
 pub mod InterpolantLaws
 pub mod DemandLaws
 pub mod Determined
+pub mod CaseLaws
+pub mod Refutations

@@ -6,3 +6,5 @@ pub mod Refusal
 pub mod Acceptance
 pub mod Interpolant
 pub mod Demands
+pub mod Cases
+pub mod Wrong
