@@ -4,6 +4,7 @@ ghost use Rattle.circuits.specs.Check.{plainChecked, Checks};
 ghost use Rattle.circuits.specs.Inside.{Refuses};
 
 // Document 01's number and place, the root's reference and the number of gates.
+#[repr(C)]
 pub struct Answer {
     pub number: usize,
     pub place: usize,

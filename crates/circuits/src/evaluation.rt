@@ -12,6 +12,7 @@ ghost use Rattle.circuits.specs.Evaluate.{valuesIn, gateEvaluated, evalu
 ghost use Rattle.circuits.specs.EvaluateInside.{lengthNumber, formNumber, GateRead, ReferenceRead, GateValued, Turned, Ran};
 
 // A refusal's number and place with value 0, or 0, 0 and the value, 0 or 1.
+#[repr(C)]
 pub struct Evaluated {
     pub number: usize,
     pub place: usize,
@@ -149,7 +150,8 @@ fn evaluate_form(
     }
 }
 
-// One gate on plain numbers, gate k, behind k gates whose values are kept a byte a gate: a byte that is not zero is true, one that is not there false.
+// One gate on plain numbers, gate k, behind k gates whose values are kept a byte a gate: a byte that is not zero is true, one that is not
+// there false, and so is a variable past the assignment's end.
 pub fn evaluate_gate(
     kind: usize,
     left: usize,

@@ -71,7 +71,7 @@ returns-4 c =
     let if3 = c .before .before .before .before .before .before .if3 in
     let derive = c .before .before .before .before .derive in
     let if4 = c .before .if4 in
-    derivation-refused 32 1024 (args .a .now) (args .b .now) (args .steps .now) (args .work .now) (args .gates .now) (test-tables .result) (test-tables .ensures) (if1 .left) (test-room .result) (test-room .ensures) (if2 .left) (omega (arith, if3 .left)) _ (derive .result) (derive .ensures) _ (if4 .taken) (c .refuse4 .ensures)
+    derivation-refused 32 1024 (args .a .now) (args .b .now) (args .steps .now) (args .work .now) (args .gates .now) (test-tables .result) (test-tables .ensures) (if1 .left) (test-room .result) (test-room .ensures) (if2 .left) (omega (arith, if3 .left)) _ (derive .result) (derive .ensures) _ (λ e. absurd (omega (arith, e, if4 .taken))) (c .refuse4 .ensures)
 
 build-requires : tie.Need-build-requires
 build-requires c κs =
@@ -79,7 +79,7 @@ build-requires c κs =
     let derive = c .before .before .before .before .derive in
     let if4 = c .before .if4 in
     let if3 = c .before .before .before .before .before .before .if3 in
-    buildable 32 1024 (args .a .now) (args .b .now) (args .steps .now) (args .work .now) (args .gates .now) _ (derive .result) (derive .ensures) (if4 .left) (omega arith) (omega (arith, if3 .left))
+    buildable 32 1024 (args .a .now) (args .b .now) (args .steps .now) (args .work .now) (args .gates .now) _ (derive .result) (derive .ensures) (omega (arith, if4 .left)) (omega arith) (omega (arith, if3 .left))
 
 same-length-4 : tie.Need-same-length-4
 same-length-4 c = search needs

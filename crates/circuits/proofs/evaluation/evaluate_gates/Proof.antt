@@ -49,12 +49,16 @@ loop-less : tie.Need-loop-less Inv-loop μ-loop
 loop-less c = omega arith
 
 loop-again : tie.Need-loop-again Inv-loop μ-loop
-loop-again c = (
-  omega arith,
-  simp length-set ((c .before .before .before .before .loop) .inv .1),
-  turn-passes _ _ _ _ _ ((c .before .evaluate-record) .result) ((c .before .evaluate-record) .ensures) ((c .before .before .before .before .loop) .inv .2) ((c .if1) .left),
-  turn-keeps _ _ _ _ _ ((c .before .evaluate-record) .result) ((c .before .evaluate-record) .ensures) ((c .if1) .left) (omega arith) ((c .before .before .before .before .loop) .inv .3),
-)
+loop-again c =
+    let args = c .before .before .before .before .before .before .before .before .args in
+    let loop = c .before .before .before .before .loop in
+    let evaluate-record = c .before .evaluate-record in
+    let turned = evaluate-record .ensures in (
+      omega arith,
+      simp length-set (loop .inv .1),
+      turn-passes (args .variables) (args .assignment .now) (args .table .now) (loop .values) (loop .k) (evaluate-record .result) turned (loop .inv .2) (c .if1 .left),
+      turn-keeps (args .variables) (args .assignment .now) (args .table .now) (loop .values) (loop .k) (evaluate-record .result) turned (c .if1 .left) (omega arith) (loop .inv .3),
+    )
 
 same-length-2 : tie.Need-same-length-2 Inv-loop μ-loop
 same-length-2 c = search needs

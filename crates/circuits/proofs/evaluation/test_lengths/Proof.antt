@@ -4,7 +4,9 @@ use Rattle.circuits.proofs.evaluation.test_lengths.Statement.{statement
 use Rattle.circuits.proofs.evaluation.test_lengths.Tie as tie
 
 returns : tie.Need-returns
-returns c = length-assignment _ _ _ _ ((c .if1) .taken)
+returns c =
+    let args = c .before .args in
+    length-assignment (args .half) (args .most) (args .assignment .now) (args .table .now) (c .if1 .taken)
 
 returns-2 : tie.Need-returns-2
 returns-2 c = length-odd _ _ _ _ ((c .before .if1) .left) ((c .if2) .taken)

@@ -70,7 +70,7 @@ returns-3 c =
     let emit4 = c .before .before .before .before .before .before .emit4 in
     let emit5 = c .before .before .emit5 in
     rw (not-false (args .in-a) (if1 .left), not-false (args .in-b) (if2 .left))
-    (adds-both (plain 256) _ _ _ _ _ _ _ _ (args .pivot) (args .left) (args .right) (emit3 .ensures) (emit4 .ensures) (emit5 .ensures)
+    (adds-both (plain 256) (args .self) (args .gates .now) (emit3 .last .1 .0) (emit4 .last .1 .0) (emit5 .last .1 .0) (emit3 .result) (emit4 .result) (emit5 .result) (args .pivot) (args .left) (args .right) (emit3 .ensures) (emit4 .ensures) (emit5 .ensures)
     (omega (arith, pre .0, emit3 .ensures .next)) (omega (arith, pre .0, emit3 .ensures .next, emit4 .ensures .next)))
 
 pub resolve-spec : {M : Type 1} → statement M

@@ -1,6 +1,10 @@
 -- `circuits::building::Builder::turn` meets its contract. Assumes nothing.
 use native.Mathlib.Omega.{arith}
 use borrow.Author.Needs.{needs}
+use lib.ListN.{getD}
+use Rattle.circuits.specs.Rule.{symmetric}
+use Rattle.circuits.specs.Build.{plain, emit}
+use Rattle.circuits.specs.Inside.{Adds}
 use Rattle.circuits.proofs.building.Builder.turn.Statement.{statement}
 use Rattle.circuits.proofs.building.Builder.turn.Tie as tie
 
@@ -36,8 +40,12 @@ same-length c = search needs
 
 returns : tie.Need-returns
 returns c =
+    let args = c .before .before .before .before .before .before .before .before .args in
     let resolve = c .before .before .before .resolve in
-    let made = resolve .ensures in
+    let made : Adds (args .self) (args .gates .now)
+    (emit (plain 256) (symmetric (args .in-a) (args .in-b)) (args .self .next) (args .pivot) (getD (args .references .now) (args .left) 0) (getD (args .references .now) (args .right) 0)) (resolve .result)
+    (resolve .last .1 .0) =
+    resolve .ensures in
     record { next = omega (arith, made .next, c .advance .ensures); step = omega (arith, made .step, c .advance .ensures); references = rw (made .reference); table = made .table }
 
 pub turn-spec : {M : Type 1} → statement M
