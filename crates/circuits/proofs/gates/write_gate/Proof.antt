@@ -1,18 +1,18 @@
 -- `circuits::gates::write_gate` meets its contract: eight stores in a row are one record written, and without room there are none. Assumes nothing.
 use Prim.Native.Nat.{_*_, _/_, _%_}
-use mathlib.Core.Path.{refl}
+use mathlib.Core.Path.{sym}
 use native.Mathlib.Omega.{arith}
-use borrow.Author.Tests.{lt-ltb, le-ltb}
 use borrow.Author.Needs.{needs}
 use lib.ListN.{length-set}
-use Rattle.circuits.specs.Gate.{gatesBytes, gateWritten}
-use Rattle.circuits.proofs.GateLaws.{stores}
+use Rattle.circuits.specs.Gate.{Gate, gatesBytes}
+use Rattle.circuits.proofs.GateLaws.{stores, written-in, written-out}
 use Rattle.circuits.proofs.gates.write_gate.Statement.{statement}
 use Rattle.circuits.proofs.gates.write_gate.Tie as tie
 
 returns : tie.Need-returns
-unfolding gateWritten
-returns c = rw (le-ltb _ _ (c .if1 .taken)) refl
+returns c =
+    let args = c .before .args in
+    sym (written-out (args .gates .now) (args .k) (record { kind = args .kind; left = args .left; right = args .right }) (omega arith))
 
 mul-at : tie.Need-mul-at
 mul-at c = search needs
@@ -78,10 +78,11 @@ same-length : tie.Need-same-length
 same-length c = search needs
 
 returns-2 : tie.Need-returns-2
-unfolding gateWritten gatesBytes
+unfolding gatesBytes
 returns-2 c =
     let args = c .before .args in
-    rw (lt-ltb _ _ (c .if1 .left))
+    let gate : Gate = record { kind = args .kind; left = args .left; right = args .right } in
+    rw (written-in (args .gates .now) (args .k) gate (omega arith))
     (stores (args .gates .now) (8 * args .k) (args .kind) 0 (args .left % 256) (args .left / 256) (args .right % 256) (args .right / 256) 0 0 (omega arith))
 
 pub write-gate-spec : {M : Type 1} → statement M
