@@ -147,10 +147,9 @@ fn occurs_in(all: &[u8], v: usize) -> bool
     requires { ⌜ v < 256 ⌝ }
     ensures { λ r. ⌜ r ≡ mentions 32 (now (all .entry)) v ⌝ }
 {
-    if records::has_literal(all, v) {
-        return true;
-    }
-    records::has_literal(all, 256 + v)
+    let positive = records::has_literal(all, v);
+    let negative = records::has_literal(all, 256 + v);
+    positive | negative
 }
 
 // The references of the input clauses: 0 for each clause of A, then 1 for each of B.

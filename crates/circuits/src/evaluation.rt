@@ -83,15 +83,9 @@ fn gate_value(
     let first = reference_value(variables, assignment, values, left);
     let second = reference_value(variables, assignment, values, right);
     if kind == 1 {
-        if first {
-            return second;
-        }
-        return false;
+        return first & second;
     }
-    if first {
-        return true;
-    }
-    second
+    first | second
 }
 
 // Tests 22, by kind, and 23 of gate k: the number of the refusal, or 0.

@@ -83,9 +83,9 @@ record-ext a b e ha hb h =
     (λ k m. sym (has-at a i k m) ∙ h (8 * i + k) (omega arith) ∙ has-at b i k m))
 
 -- one bit, by the mask of that bit
-pub mask-has : (r : List ℕ) (l k : ℕ) → l % 8 ≡ k → not (eqb (bitAnd (getD r (l / 8) 0) (2 ^ k)) 0) ≡ has r l
+pub mask-has : (r : List ℕ) (l mask : ℕ) → mask ≡ 2 ^ (l % 8) → not (eqb (bitAnd (getD r (l / 8) 0) mask) 0) ≡ has r l
 unfolding has
-mask-has r l k e = test-bit (getD r (l / 8) 0) k ∙ ap (bitOf (getD r (l / 8) 0)) (sym e)
+mask-has r l mask e = ap (λ (m : ℕ). not (eqb (bitAnd (getD r (l / 8) 0) m) 0)) e ∙ test-bit (getD r (l / 8) 0) (l % 8)
 
 -- the mask of every bit but one
 pub all-but-mask : (k : ℕ) → k < 8 → 255 - 1 * 2 ^ k % 256 ≡ allBut k

@@ -1,9 +1,26 @@
 // Clause records: the bit test, and the resolvent of two of them.
 ghost use mathlib.Core.Path.{_≡_};
-ghost use Prim.Native.Nat.{_*_, _<_, _≤_};
+ghost use Prim.Native.Nat.{_*_, _^_, _<_, _≤_};
 ghost use lib.ListN.{length};
 ghost use Rattle.records.specs.Clause.{has, resolvent, resolvedInto};
 ghost use Rattle.records.specs.Inside.{allBut};
+
+// The byte that has bit k and no other. The compiler makes one table of the eight cases, and no jump.
+fn mask_of(k: usize) -> u8
+    requires { ⌜ k < 8 ⌝ }
+    ensures { λ r. ⌜ r ≡ 2 ^ k ⌝ }
+{
+    match k {
+        0 => 1,
+        1 => 2,
+        2 => 4,
+        3 => 8,
+        4 => 16,
+        5 => 32,
+        6 => 64,
+        _ => 128,
+    }
+}
 
 // Bit `literal` of a record: of a clause of 64 bytes v is the literal xv, and 256 + v is not xv. It tests a literal of a clause, a
 // variable's colour and an assignment alike; past the end there is none.
@@ -14,18 +31,8 @@ pub fn has_literal(clause: &[u8], literal: usize) -> bool
     if clause.len() <= at {
         return false;
     }
-    let byte = clause[at];
-    let bit = literal % 8;
-    match bit {
-        0 => byte & 1 != 0,
-        1 => byte & 2 != 0,
-        2 => byte & 4 != 0,
-        3 => byte & 8 != 0,
-        4 => byte & 16 != 0,
-        5 => byte & 32 != 0,
-        6 => byte & 64 != 0,
-        _ => byte & 128 != 0,
-    }
+    let mask = mask_of(literal % 8);
+    clause[at] & mask != 0
 }
 
 // The byte that has every bit but k.

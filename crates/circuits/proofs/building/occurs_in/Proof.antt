@@ -1,4 +1,6 @@
 -- `circuits::building::occurs_in` meets its contract: one sign or the other. Assumes nothing.
+use mathlib.Core.Path.{ap₂}
+use mathlib.Core.Bool.{_||_}
 use borrow.Author.Needs.{needs}
 use Rattle.circuits.specs.Inside.{mentions}
 use Rattle.circuits.proofs.building.occurs_in.Statement.{statement}
@@ -7,26 +9,15 @@ use Rattle.circuits.proofs.building.occurs_in.Tie as tie
 has-literal-requires : tie.Need-has-literal-requires
 has-literal-requires c κs = search needs
 
-returns : tie.Need-returns
-unfolding mentions
-returns c =
-    let has-literal = c .before .has-literal in
-    rw (← has-literal .ensures, c .if1 .taken)
-
 add-has-literal : tie.Need-add-has-literal
 add-has-literal c = search needs
 
 has-literal-requires-2 : tie.Need-has-literal-requires-2
 has-literal-requires-2 c κs = search needs
 
-returns-2 : tie.Need-returns-2
+returns : tie.Need-returns
 unfolding mentions
-returns-2 c =
-    let has-literal = c .before .before .has-literal in
-    let if1 = c .before .if1 in
-    rw (← has-literal .ensures, if1 .left) (c .has-literal2 .ensures)
+returns c = ap₂ _||_ (c .before .has-literal .ensures) (c .has-literal2 .ensures)
 
 pub occurs-in-spec : {M : Type 1} → statement M
-occurs-in-spec =
-    tie.close
-    (tie.spec has-literal-requires returns add-has-literal has-literal-requires-2 returns-2)
+occurs-in-spec = tie.close (tie.spec has-literal-requires add-has-literal has-literal-requires-2 returns)
