@@ -1,9 +1,11 @@
-//! Compares the proved library with the independent version: the listed cases, random tables, the laws, and the tests themselves.
+//! Compares the proved library with the independent version: the listed cases, random tables, the laws, the tests themselves, and the names of
+//! the claims.
 //!
 //! `compare [--seed N] [--count N] [--without-print]`; the count is that of the random tables, and of the random evaluations.
 
 #![forbid(unsafe_code)]
 
+mod claims;
 mod example;
 mod faults;
 mod folder;
@@ -66,6 +68,7 @@ fn main() -> ExitCode {
     random_tables::run(&mut tally, &mut random, options.count);
     faults::run(&mut tally, &mut random);
     example::run(&mut tally);
+    claims::run(&mut tally);
     if options.with_print {
         printing::run(&mut tally, &mut random);
     } else {
