@@ -5,7 +5,7 @@ ghost use lib.ListN.{length};
 ghost use Rattle.records.specs.Clause.{has, resolvent, resolvedInto};
 ghost use Rattle.records.specs.Inside.{allBut};
 
-// The byte that has bit k and no other. The compiler makes one table of the eight cases, and no jump.
+// The byte that has bit k and no other, in eight cases.
 fn mask_of(k: usize) -> u8
     requires { ⌜ k < 8 ⌝ }
     ensures { λ r. ⌜ r ≡ 2 ^ k ⌝ }
