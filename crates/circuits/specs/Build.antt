@@ -57,6 +57,7 @@ built add rule n start step (suc i) =
 unfoldable pub inputReferences : ℕ → ℕ → List ℕ
 inputReferences a b = replicate a 0 ++ replicate b 1
 
+-- "Clause of A: 0. Clause of B: 1", for the clauses of both tables; no gate is made for them
 abbrev pub symmetricStart : ℕ → List ℕ → List ℕ → Build
 symmetricStart h a b = record { references = inputReferences (records (2 * h) a) (records (2 * h) b); gates = [] }
 

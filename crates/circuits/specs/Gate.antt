@@ -40,6 +40,7 @@ gateAt table k = gateOf (recordAt 8 table k)
 abbrev pub spareOf : List ℕ → Bool
 spareOf bytes = eqb (getD bytes 1 0) 0 && eqb (getD bytes 6 0) 0 && eqb (getD bytes 7 0) 0
 
+-- those of gate k of a table
 unfoldable pub spareAt : List ℕ → ℕ → Bool
 spareAt table k = spareOf (recordAt 8 table k)
 

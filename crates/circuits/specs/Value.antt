@@ -17,6 +17,7 @@ referenceValue N assignment vs r =
 abbrev pub kindValue : ℕ → Bool → Bool → Bool
 kindValue kind left right = cond (eqb kind 1) (left && right) (left || right)
 
+-- the AND/OR of the values of a gate's two inputs
 unfoldable pub gateValue : ℕ → (ℕ → Bool) → List Bool → Gate → Bool
 gateValue N assignment vs g = kindValue (g .kind) (referenceValue N assignment vs (g .left)) (referenceValue N assignment vs (g .right))
 
