@@ -1,41 +1,35 @@
 -- The laws for the proofs of the evaluator's functions: each refusal's number and place, and the values that are kept.
-use Prim.Native.Nat.{ℕ, zero, suc, _+_, _-_, _*_, _/_, _%_, _≤_, _<_}
+use Prim.Native.Nat.{ℕ, zero, suc, _+_, _-_, _*_, _/_, _%_, _^_, _≤_, _<_}
 use mathlib.Core.Path.{_≡_, refl, sym, ap, ap₂, subst, _∙_}
-use mathlib.Core.Bool.{Bool, true, false, not, _&&_, _||_, cond, true≢false}
+use mathlib.Core.Bool.{Bool, true, false, not, _&&_, _||_, cond, true≢false, and-false}
 use mathlib.Core.List.{List, [], _∷_, _++_}
 use native.Mathlib.Omega.{arith}
-use borrow.Author.Tests.{eq-eqb, ne-eqb, eqb-false, lt-ltb, le-ltb, ltb-true, ltb-false, le-leb, lt-leb, leb-true}
-use lib.Bits.{bitOr}
+use borrow.Author.Tests.{eq-eqb, ne-eqb, eqb-true, eqb-false, lt-ltb, le-ltb, ltb-true, le-leb, lt-leb, leb-true}
+use lib.Bits.{bitAnd, bitOr}
 use lib.Dec.{eqb, leb, ltb}
-use lib.ListN.{length, getD, set}
-use lib.Seq.{getD-set-same, getD-set-other}
+use lib.ListN.{length, getD, set, length-set}
+use lib.Seq.{getD-set-same, getD-set-other, getD-append-seam}
 use Rattle.records.specs.declared.tests.Verdict.{Verdict}
-use Rattle.records.specs.Bits.{digit}
-use Rattle.records.specs.Lists.{tabulate}
+use Rattle.records.specs.Bits.{bitOf, digit}
 use Rattle.records.specs.Clause.{has}
 use Rattle.records.specs.Table.{recordAt, records}
 use Rattle.records.specs.Step.{pairAt}
 use Rattle.records.specs.Tests.{Test, test, firstFailed, refused}
-use Rattle.records.proofs.ListLaws.{length-tabulate, getD-tabulate, tabulate-members, tabulate-snoc}
-use Rattle.records.proofs.TestLaws.{Passed, Numbered, Placed, passed-none, none-passed, refused-place, fails, passes, refused-not, refused-is, no-test, passed-append, numbered-append, after-passed, after-refused}
+use Rattle.records.proofs.ListLaws.{length-tabulate, tabulate-none}
+use Rattle.records.proofs.TestLaws.{Passed, Numbered, Placed, passed-none, none-passed, refused-place, fails, passes, refused-not, refused-is, not-refused, no-test, passed-append, numbered-append, after-passed, after-refused}
+use Rattle.records.proofs.BitLaws.{bit-and, bit-or, zero-bit, low-bit, lowest-digit, bit-shifted}
+use Rattle.records.proofs.ClauseLaws.{has-at}
 use Rattle.records.proofs.StepLaws.{spare-joined}
 use Rattle.records.proofs.TableLaws.{byte-recordAt}
 use Rattle.circuits.specs.declared.evaluation.GateRecord.{GateRecord}
 use Rattle.circuits.specs.declared.evaluation.Evaluated.{Evaluated}
 use Rattle.circuits.specs.Reference.{gateReference}
 use Rattle.circuits.specs.Gate.{Gate, gateAt, spareAt, gatesOf}
-use Rattle.circuits.specs.Value.{referenceValue, gateValue, values, value}
-use Rattle.circuits.specs.Evaluate.{Evaluates, answered, lengthTests, formTests, gateTests, gatesTests, referenceTests, keptAt, valuesIn, gateEvaluated, evaluationTests, evaluated}
-use Rattle.circuits.specs.EvaluateInside.{lengthNumber, formNumber, GateRead, ReferenceRead, GateValued, Turned, Ran}
+use Rattle.circuits.specs.Value.{referenceValue, kindValue, gateValue, values, value}
+use Rattle.circuits.specs.Evaluate.{Evaluates, answered, lengthTests, formTests, recordTests, gateTests, gatesTests, referenceTests, keptAt, keptValue, gateEvaluated, evaluationTests, evaluated}
+use Rattle.circuits.specs.EvaluateInside.{lengthNumber, GateRead, Paired, Filled, Known, recordEvaluated, Ran}
+use Rattle.circuits.proofs.ValueLaws.{value-positive, value-negative, value-gate, value-earlier, circuit-length}
 use Rattle.circuits.proofs.EvaluateLaws.{values-next, tests-split, lengths-refuse, root-decides}
-
--- a reference behind the first b is below b + k where its rest is below k
-pub below-behind : (x b k : ℕ) → b ≤ x → ltb (x - b) k ≡ ltb x (b + k)
-below-behind x b k l = go (ltb x (b + k)) refl
-  where
-    go : (t : Bool) → ltb x (b + k) ≡ t → ltb (x - b) k ≡ t
-    go true e = let small = ltb-true x (b + k) e in lt-ltb (x - b) k (omega arith)
-    go false e = let large = ltb-false x (b + k) e in le-ltb (x - b) k (omega arith)
 
 pub and-both : (x y : Bool) → (x && y) ≡ true → (x ≡ true) × (y ≡ true)
 and-both true true e = (refl, refl)
@@ -76,10 +70,6 @@ answer-small v x = go (refused v) x
 pub answer-value : (v : Verdict) (x : Bool) → v .number ≡ 0 → cond (refused v) 0 (digit x) ≡ digit x
 answer-value v x e = ap (λ (b : Bool). cond b 0 (digit x)) (refused-not v e)
 
-pub digit-kept : (x : Bool) → not (eqb (digit x) 0) ≡ x
-digit-kept true = refl
-digit-kept false = refl
-
 -- 22 and 23 of a gate on plain numbers
 pub kind-good : (kind : ℕ) → 1 ≤ kind → kind ≤ 2 → (eqb kind 1 || eqb kind 2) ≡ true
 kind-good kind least most = go (eqb kind 1) refl
@@ -89,87 +79,105 @@ kind-good kind least most = go (eqb kind 1) refl
     go false e = let other = eqb-false kind 1 e in eq-eqb kind 2 (omega arith)
 
 abbrev inputTests : ℕ → ℕ → ℕ → ℕ → List Test
-inputTests N left right k = test (ltb left (gateReference N k) && ltb right (gateReference N k)) 23 k ∷ []
+inputTests own left right k = test (ltb left own && ltb right own) 23 k ∷ []
 
-module _ (N kind left right k : ℕ) where
-  pub form-kind : (kind ≡ 1 → ⊥) → (kind ≡ 2 → ⊥) → 22 ≡ formNumber N kind left right k
-  unfolding formNumber formTests
-  form-kind one two =
-      sym (ap (λ (v : Verdict). v .number) (fails (eqb kind 1 || eqb kind 2) 22 k (inputTests N left right k) (rw (ne-eqb kind 1 one, ne-eqb kind 2 two) refl)))
-
-  pub form-input : 1 ≤ kind → kind ≤ 2 → (ltb left (gateReference N k) && ltb right (gateReference N k)) ≡ false → 23 ≡ formNumber N kind left right k
-  unfolding formNumber formTests
-  form-input least most late =
-      sym (ap (λ (v : Verdict). v .number) (passes (eqb kind 1 || eqb kind 2) 22 k (inputTests N left right k) (kind-good kind least most)
-      ∙ fails (ltb left (gateReference N k) && ltb right (gateReference N k)) 23 k [] late))
-
-  pub form-good : 1 ≤ kind → kind ≤ 2 → ltb left (gateReference N k) ≡ true → ltb right (gateReference N k) ≡ true → 0 ≡ formNumber N kind left right k
-  unfolding formNumber formTests
-  form-good least most l r =
-      sym (ap (λ (v : Verdict). v .number)
-      (passed-none (formTests N k (record { kind = kind; left = left; right = right })) (kind-good kind least most, (ap₂ _&&_ l r, tt)) ∙ no-test))
-
-pub form-numbered : (N k : ℕ) (g : Gate) → Numbered (formTests N k g)
+pub form-numbered : (own k : ℕ) (g : Gate) → Numbered (formTests own k g)
 unfolding formTests
-form-numbered N k g = (omega arith, (omega arith, tt))
+form-numbered own k g = (omega arith, (omega arith, tt))
 
-pub form-placed : (N k : ℕ) (g : Gate) → Placed k (formTests N k g)
+pub form-placed : (own k : ℕ) (g : Gate) → Placed k (formTests own k g)
 unfolding formTests
-form-placed N k g = (refl, (refl, tt))
+form-placed own k g = (refl, (refl, tt))
 
-pub form-inputs : (N k : ℕ) (g : Gate) → Passed (formTests N k g) → (g .left < gateReference N k) × (g .right < gateReference N k)
+pub form-inputs : (own k : ℕ) (g : Gate) → Passed (formTests own k g) → (g .left < own) × (g .right < own)
 unfolding formTests
-form-inputs N k g passed =
-    let both = and-both (ltb (g .left) (gateReference N k)) (ltb (g .right) (gateReference N k)) (passed .1 .0) in
-    (ltb-true (g .left) (gateReference N k) (both .0), ltb-true (g .right) (gateReference N k) (both .1))
+form-inputs own k g passed =
+    let both = and-both (ltb (g .left) own) (ltb (g .right) own) (passed .1 .0) in
+    (ltb-true (g .left) own (both .0), ltb-true (g .right) own (both .1))
 
-pub form-passes : (N kind left right k : ℕ) → 0 ≡ formNumber N kind left right k → Passed (formTests N k (record { kind = kind; left = left; right = right }))
-unfolding formNumber
-form-passes N kind left right k e =
-    let g : Gate = record { kind = kind; left = left; right = right } in
-    none-passed (formTests N k g) (form-numbered N k g) (sym e)
+-- the value of a gate from the lowest bits of two bytes
+joins : (kind x y : ℕ) → 1 ≤ kind → kind ≤ 2 → bitOr (bitAnd x y) (bitAnd (bitOr x y) (kind / 2)) % 2 ≡ digit (kindValue kind (bitOf x 0) (bitOf y 0))
+joins kind x y least most =
+    low-bit (bitOr (bitAnd x y) (bitAnd (bitOr x y) (kind / 2)))
+    ∙ ap digit
+    (bit-or (bitAnd x y) (bitAnd (bitOr x y) (kind / 2)) 0
+    ∙ ap₂ _||_ (bit-and x y 0) (bit-and (bitOr x y) (kind / 2) 0 ∙ ap (λ (b : Bool). b && bitOf (kind / 2) 0) (bit-or x y 0))
+    ∙ by-kind kind (bitOf x 0) (bitOf y 0) least most)
+  where
+    by-or : (x y : Bool) → ((x && y) || ((x || y) && true)) ≡ (x || y)
+    by-or true true = refl
+    by-or true false = refl
+    by-or false true = refl
+    by-or false false = refl
 
-module _ (N : ℕ) (σ : ℕ → Bool) (vs : List Bool) (k kind left right : ℕ) where
-  pub form-refused : (n : ℕ) → n ≡ formNumber N kind left right k → (n ≡ 0 → ⊥)
-      → Evaluates (gateEvaluated N σ vs k (record { kind = kind; left = left; right = right })) (record { number = n; place = k; value = 0 })
-  unfolding gateEvaluated formNumber
-  form-refused n e bad =
+    by-and : (x y : Bool) → ((x && y) || ((x || y) && false)) ≡ (x && y)
+    by-and true true = refl
+    by-and true false = refl
+    by-and false true = refl
+    by-and false false = refl
+
+    by-kind : (kind : ℕ) (x y : Bool) → 1 ≤ kind → kind ≤ 2 → ((x && y) || ((x || y) && bitOf (kind / 2) 0)) ≡ kindValue kind x y
+    by-kind zero x y least most = absurd (omega arith)
+    by-kind (suc zero) x y least most = rw (zero-bit 0) (by-and x y)
+    by-kind (suc (suc zero)) x y least most = rw (lowest-digit true) (by-or x y)
+    by-kind (suc (suc (suc n))) x y least most = absurd (omega arith)
+
+-- one gate on plain numbers
+module _ (bytes : List ℕ) (kind left right k : ℕ) where
+  pub gate-kind : (kind ≡ 1 → ⊥) → (kind ≡ 2 → ⊥)
+      → Evaluates (gateEvaluated bytes k (record { kind = kind; left = left; right = right })) (record { number = 22; place = k; value = 0 })
+  unfolding gateEvaluated formTests
+  gate-kind one two =
       let g : Gate = record { kind = kind; left = left; right = right } in
-      answers-refused (formTests N k g) (gateValue N σ vs g) n k (form-placed N k g) e bad
+      answers-refused (formTests (length bytes) k g) (keptValue bytes g) 22 k (form-placed (length bytes) k g)
+      (sym (ap (λ (v : Verdict). v .number)
+      (fails (eqb kind 1 || eqb kind 2) 22 k (inputTests (length bytes) left right k) (rw (ne-eqb kind 1 one, ne-eqb kind 2 two) refl)))) (λ z. absurd (omega arith))
 
-pub form-value : (N : ℕ) (assignment bytes : List ℕ) (k kind left right : ℕ) (b read : Bool) → 0 ≡ formNumber N kind left right k → read ≡ b → GateValued N kind left right assignment bytes read
-    → Evaluates (gateEvaluated N (has assignment) (valuesIn k bytes) k (record { kind = kind; left = left; right = right })) (record { number = 0; place = 0; value = digit b })
-unfolding gateEvaluated
-form-value N assignment bytes k kind left right b read good e valued =
-    let g : Gate = record { kind = kind; left = left; right = right } in
-    let passed = form-passes N kind left right k good in
-    let inputs = form-inputs N k g passed in
-    answers-value (formTests N k g) (gateValue N (has assignment) (valuesIn k bytes) g) b passed (sym e ∙ valued .value k (inputs .0) (inputs .1))
+  module _ (least : 1 ≤ kind) (most : kind ≤ 2) where
+    gate-input : (ltb left (length bytes) && ltb right (length bytes)) ≡ false
+        → Evaluates (gateEvaluated bytes k (record { kind = kind; left = left; right = right })) (record { number = 23; place = k; value = 0 })
+    unfolding gateEvaluated formTests
+    gate-input late =
+        let g : Gate = record { kind = kind; left = left; right = right } in
+        answers-refused (formTests (length bytes) k g) (keptValue bytes g) 23 k (form-placed (length bytes) k g)
+        (sym (ap (λ (v : Verdict). v .number)
+        (passes (eqb kind 1 || eqb kind 2) 22 k (inputTests (length bytes) left right k) (kind-good kind least most)
+        ∙ fails (ltb left (length bytes) && ltb right (length bytes)) 23 k [] late))) (λ z. absurd (omega arith))
 
--- gate k of a table
-pub gate-numbered : (N : ℕ) (t : List ℕ) (k : ℕ) → Numbered (gateTests N t k)
-gate-numbered N t k = (omega arith, form-numbered N k (gateAt t k))
+    pub gate-left : length bytes ≤ left → Evaluates (gateEvaluated bytes k (record { kind = kind; left = left; right = right })) (record { number = 23; place = k; value = 0 })
+    gate-left late = gate-input (ap (λ (b : Bool). b && ltb right (length bytes)) (le-ltb left (length bytes) late))
 
-pub gate-spare : (N : ℕ) (assignment t : List ℕ) (k : ℕ) (bytes : List ℕ) → spareAt t k ≡ false → Turned N assignment t k bytes (record { number = 22; place = k; value = 0 })
-gate-spare N assignment t k bytes e =
-    record {
-      answer =
-          answers-refused (gateTests N t k) (gateValue N (has assignment) (valuesIn k bytes) (gateAt t k)) 22 k (refl, form-placed N k (gateAt t k))
-          (sym (ap (λ (v : Verdict). v .number) (fails (spareAt t k) 22 k (formTests N k (gateAt t k)) e))) (λ z. absurd (omega arith));
-    }
+    pub gate-right : length bytes ≤ right → Evaluates (gateEvaluated bytes k (record { kind = kind; left = left; right = right })) (record { number = 23; place = k; value = 0 })
+    gate-right late = gate-input (ap (λ (b : Bool). ltb left (length bytes) && b) (le-ltb right (length bytes) late) ∙ and-false (ltb left (length bytes)))
 
-pub gate-form : (N : ℕ) (assignment t : List ℕ) (k : ℕ) (bytes : List ℕ) (g : Gate) (r : Evaluated) → spareAt t k ≡ true → g ≡ gateAt t k
-    → Evaluates (gateEvaluated N (has assignment) (valuesIn k bytes) k g) r → Turned N assignment t k bytes r
-unfolding gateEvaluated
-gate-form N assignment t k bytes g r spare e a =
-    let σ = has assignment in
-    let vs = valuesIn k bytes in
-    record {
-      answer =
-          answers-by (firstFailed (gateTests N t k)) (firstFailed (formTests N k (gateAt t k))) (gateValue N σ vs (gateAt t k)) r
-          (passes (spareAt t k) 22 k (formTests N k (gateAt t k)) spare)
-          (subst (λ (f : Gate). Evaluates (answered (firstFailed (formTests N k f)) (gateValue N σ vs f)) r) e a);
-    }
+    pub gate-joined : left < length bytes → right < length bytes
+        → Evaluates (gateEvaluated bytes k (record { kind = kind; left = left; right = right }))
+        (record { number = 0; place = 0; value = bitOr (bitAnd (getD bytes left 0) (getD bytes right 0)) (bitAnd (bitOr (getD bytes left 0) (getD bytes right 0)) (kind / 2)) % 2 })
+    unfolding gateEvaluated formTests keptAt
+    gate-joined l r =
+        let g : Gate = record { kind = kind; left = left; right = right } in
+        let x = kindValue kind (bitOf (getD bytes left 0) 0) (bitOf (getD bytes right 0) 0) in
+        subst (λ (n : ℕ). Evaluates (answered (firstFailed (formTests (length bytes) k g)) x) (record { number = 0; place = 0; value = n }))
+        (sym (joins kind (getD bytes left 0) (getD bytes right 0) least most))
+        (answers-value (formTests (length bytes) k g) x x (kind-good kind least most, (ap₂ _&&_ (lt-ltb left (length bytes) l) (lt-ltb right (length bytes) r), tt)) refl)
+
+-- gate k of a table, behind references whose values are kept
+pub gate-numbered : (own : ℕ) (t : List ℕ) (k : ℕ) → Numbered (recordTests own t k)
+gate-numbered own t k = (omega arith, form-numbered own k (gateAt t k))
+
+pub record-spare : (t : List ℕ) (k : ℕ) (bytes : List ℕ) → spareAt t k ≡ false → Evaluates (recordEvaluated t k bytes) (record { number = 22; place = k; value = 0 })
+unfolding recordEvaluated
+record-spare t k bytes e =
+    answers-refused (recordTests (length bytes) t k) (keptValue bytes (gateAt t k)) 22 k (refl, form-placed (length bytes) k (gateAt t k))
+    (sym (ap (λ (v : Verdict). v .number) (fails (spareAt t k) 22 k (formTests (length bytes) k (gateAt t k)) e))) (λ z. absurd (omega arith))
+
+pub record-gate : (t : List ℕ) (k : ℕ) (bytes : List ℕ) (g : Gate) (r : Evaluated) → spareAt t k ≡ true → g ≡ gateAt t k
+    → Evaluates (gateEvaluated bytes k g) r → Evaluates (recordEvaluated t k bytes) r
+unfolding recordEvaluated gateEvaluated
+record-gate t k bytes g r spare e valued =
+    answers-by (firstFailed (recordTests (length bytes) t k)) (firstFailed (formTests (length bytes) k (gateAt t k))) (keptValue bytes (gateAt t k)) r
+    (passes (spareAt t k) 22 k (formTests (length bytes) k (gateAt t k)) spare)
+    (subst (λ (f : Gate). Evaluates (answered (firstFailed (formTests (length bytes) k f)) (keptValue bytes f)) r) e valued)
 
 -- all gates of a table
 pub gates-stop : (N : ℕ) (t : List ℕ) (k more n : ℕ) → suc (k + more) ≡ n → Passed (gatesTests N t k) → (firstFailed (gateTests N t k) .number ≡ 0 → ⊥)
@@ -188,61 +196,116 @@ pub gates-next : (N : ℕ) (t : List ℕ) (k : ℕ) → Passed (gatesTests N t k
 unfolding gatesTests
 gates-next N t k before e =
     let next : k + 1 ≡ suc k = omega arith in
-    rw next (passed-append (gatesTests N t k) (gateTests N t k) before (none-passed (gateTests N t k) (gate-numbered N t k) e))
+    rw next (passed-append (gatesTests N t k) (gateTests N t k) before (none-passed (gateTests N t k) (gate-numbered (gateReference N k) t k) e))
 
 pub gates-numbered : (N : ℕ) (t : List ℕ) (k : ℕ) → Numbered (gatesTests N t k)
 unfolding gatesTests
 gates-numbered N t zero = tt
-gates-numbered N t (suc k) = numbered-append (gatesTests N t k) (gateTests N t k) (gates-numbered N t k) (gate-numbered N t k)
+gates-numbered N t (suc k) = numbered-append (gatesTests N t k) (gateTests N t k) (gates-numbered N t k) (gate-numbered (gateReference N k) t k)
+
+-- the values of the literals
+filled-none : (N : ℕ) (assignment bytes : List ℕ) → getD bytes 0 0 ≡ 0 → getD bytes 1 0 ≡ 1 → Filled N assignment 0 bytes
+unfolding referenceValue
+filled-none N assignment bytes bottom top = record { byte = go }
+  where
+    go : (r : ℕ) → r < 2 + 2 * 0 → getD bytes r 0 ≡ digit (referenceValue N (has assignment) [] r)
+    go zero l = bottom
+    go (suc zero) l = top
+    go (suc (suc r)) l = absurd (omega arith)
+
+pub filled-start : (N : ℕ) (assignment bytes : List ℕ) → 2 ≤ length bytes → Filled N assignment 0 (set (set bytes 0 0) 1 1)
+filled-start N assignment bytes room =
+    filled-none N assignment (set (set bytes 0 0) 1 1) (getD-set-other (set bytes 0 0) 1 0 1 0 (omega arith) ∙ getD-set-same bytes 0 0 0 (omega arith))
+    (getD-set-same (set bytes 0 0) 1 1 0 (omega (arith, length-set bytes 0 0)))
+
+filled-next : (N : ℕ) (assignment bytes : List ℕ) (v p n : ℕ) → v < N → 2 + 2 * N ≤ length bytes → p ≡ digit (has assignment v) → n ≡ digit (not (has assignment v))
+    → Filled N assignment v bytes → Filled N assignment (v + 1) (set (set bytes (2 + 2 * v) p) (3 + 2 * v) n)
+filled-next N assignment bytes v p n small room e f filled = record { byte = λ r l. go r l (eqb r (2 + 2 * v)) refl (eqb r (3 + 2 * v)) refl }
+  where
+    go : (r : ℕ) → r < 2 + 2 * (v + 1) → (b : Bool) → eqb r (2 + 2 * v) ≡ b → (d : Bool) → eqb r (3 + 2 * v) ≡ d
+        → getD (set (set bytes (2 + 2 * v) p) (3 + 2 * v) n) r 0 ≡ digit (referenceValue N (has assignment) [] r)
+    go r l b g true h =
+        let at : r ≡ 3 + 2 * v = eqb-true r (3 + 2 * v) h in
+        rw at
+        (getD-set-same (set bytes (2 + 2 * v) p) (3 + 2 * v) n 0 (omega (arith, length-set bytes (2 + 2 * v) p)) ∙ f
+        ∙ ap digit (sym (value-negative N (has assignment) [] v small)))
+    go r l true g false h =
+        let at : r ≡ 2 + 2 * v = eqb-true r (2 + 2 * v) g in
+        rw at
+        (getD-set-other (set bytes (2 + 2 * v) p) (3 + 2 * v) (2 + 2 * v) n 0 (omega arith) ∙ getD-set-same bytes (2 + 2 * v) p 0 (omega arith) ∙ e
+        ∙ ap digit (sym (value-positive N (has assignment) [] v small)))
+    go r l false g false h =
+        let other = eqb-false r (2 + 2 * v) g in
+        let another = eqb-false r (3 + 2 * v) h in
+        getD-set-other (set bytes (2 + 2 * v) p) (3 + 2 * v) r n 0 (omega arith)
+        ∙ getD-set-other bytes (2 + 2 * v) r p 0 (omega arith)
+        ∙ filled .byte r (omega arith)
+
+-- both values of a variable, by its bit
+pub pair-true : (bit : ℕ) → bit ≡ 1 → Paired bit 1
+pair-true bit e = record { first = ap digit (sym (eq-eqb bit 1 e)); second = ap (λ (b : Bool). digit (not b)) (sym (eq-eqb bit 1 e)) }
+
+pub pair-false : (bit : ℕ) → (bit ≡ 1 → ⊥) → Paired bit 256
+pair-false bit n = record { first = ap digit (sym (ne-eqb bit 1 n)); second = ap (λ (b : Bool). digit (not b)) (sym (ne-eqb bit 1 n)) }
+
+pub pair-small : (bit pair : ℕ) → Paired bit pair → pair / 256 < 256
+pair-small bit pair paired = omega (arith, paired .second, go (not (eqb bit 1)))
+  where
+    go : (b : Bool) → digit b < 256
+    go true = omega arith
+    go false = omega arith
+
+byte-bit : (assignment : List ℕ) (j k : ℕ) → k < 8 → eqb (getD assignment j 0 / 2 ^ k % 2) 1 ≡ has assignment (8 * j + k)
+byte-bit assignment j k l = bit-shifted (getD assignment j 0) k ∙ sym (has-at assignment j k l)
+
+pub filled-pair : (N : ℕ) (assignment bytes : List ℕ) (j k pair : ℕ) → k < 8 → 8 * j + 8 ≤ N → 2 + 2 * N ≤ length bytes → Paired (getD assignment j 0 / 2 ^ k % 2) pair
+    → Filled N assignment (8 * j + k) bytes
+    → Filled N assignment (8 * j + (k + 1)) (set (set bytes (2 + 2 * (8 * j + k)) (pair % 256)) (3 + 2 * (8 * j + k)) (pair / 256))
+filled-pair N assignment bytes j k pair l small room paired filled =
+    let bit = byte-bit assignment j k l in
+    let next : 8 * j + k + 1 ≡ 8 * j + (k + 1) = omega arith in
+    subst (λ (v : ℕ). Filled N assignment v (set (set bytes (2 + 2 * (8 * j + k)) (pair % 256)) (3 + 2 * (8 * j + k)) (pair / 256))) next
+    (filled-next N assignment bytes (8 * j + k) (pair % 256) (pair / 256) (omega arith) room (paired .first ∙ ap digit bit)
+    (paired .second ∙ ap (λ (b : Bool). digit (not b)) bit) filled)
 
 -- the values that are kept
-pub kept-none : (bytes : List ℕ) (N : ℕ) (σ : ℕ → Bool) (t : List ℕ) → valuesIn 0 bytes ≡ values N σ [] (gatesOf t 0)
-unfolding valuesIn gatesOf values
-kept-none bytes N σ t =
-    tabulate-members [] (keptAt bytes) false (λ k l. absurd (omega arith))
-    ∙ sym (ap (values N σ []) (tabulate-members [] (gateAt t) (record { kind = 0; left = 0; right = 0 }) (λ k l. absurd (omega arith))))
+pub known-none : (N : ℕ) (assignment t bytes : List ℕ) → Filled N assignment N bytes → Known N (has assignment) (values N (has assignment) [] (gatesOf t 0)) 0 bytes
+unfolding gatesOf values
+known-none N assignment t bytes filled = rw (tabulate-none (gateAt t)) (record { byte = λ r l. filled .byte r (omega arith) })
 
-pub kept-earlier : (bytes : List ℕ) (k b : ℕ) → valuesIn k (set bytes k b) ≡ valuesIn k bytes
-unfolding valuesIn keptAt
-kept-earlier bytes k b =
-    let size = length-tabulate k (keptAt bytes) in
-    ap (λ (n : ℕ). tabulate n (keptAt (set bytes k b))) (sym size)
-    ∙ tabulate-members (tabulate k (keptAt bytes)) (keptAt (set bytes k b)) false
-    (λ i l. ap (λ (x : ℕ). not (eqb x 0)) (getD-set-other bytes k i b 0 (omega arith)) ∙ sym (getD-tabulate k (keptAt bytes) false i (omega arith)))
+length-gatesOf : (t : List ℕ) (k : ℕ) → length (gatesOf t k) ≡ k
+unfolding gatesOf
+length-gatesOf t k = length-tabulate k (gateAt t)
 
-pub kept-next : (N : ℕ) (σ : ℕ → Bool) (t bytes : List ℕ) (k b : ℕ) → k < length bytes → valuesIn k bytes ≡ values N σ [] (gatesOf t k)
-    → b ≡ digit (gateValue N σ (valuesIn k bytes) (gateAt t k)) → valuesIn (k + 1) (set bytes k b) ≡ values N σ [] (gatesOf t (k + 1))
-unfolding valuesIn keptAt
-kept-next N σ t bytes k b l so-far e =
-    let next : k + 1 ≡ suc k = omega arith in
-    let new : keptAt (set bytes k b) k ≡ gateValue N σ (values N σ [] (gatesOf t k)) (gateAt t k) =
-    ap (λ (x : ℕ). not (eqb x 0)) (getD-set-same bytes k b 0 l ∙ e) ∙ digit-kept (gateValue N σ (valuesIn k bytes) (gateAt t k))
-    ∙ ap (λ (vs : List Bool). gateValue N σ vs (gateAt t k)) so-far in
-    rw next
-    (tabulate-snoc k (keptAt (set bytes k b))
-    ∙ ap₂ (λ (vs : List Bool) (x : Bool). vs ++ (x ∷ [])) (kept-earlier bytes k b ∙ so-far) new
-    ∙ sym (values-next N σ t k))
+pub known-next : (N : ℕ) (σ : ℕ → Bool) (t bytes : List ℕ) (k b : ℕ) → gateReference N k < length bytes → Known N σ (values N σ [] (gatesOf t k)) k bytes
+    → b ≡ digit (gateValue N σ (values N σ [] (gatesOf t k)) (gateAt t k)) → Known N σ (values N σ [] (gatesOf t (k + 1))) (k + 1) (set bytes (gateReference N k) b)
+known-next N σ t bytes k b room known e = record { byte = λ r l. go r l (eqb r (gateReference N k)) refl }
+  where
+    vs : List Bool
+    vs = values N σ [] (gatesOf t k)
 
--- a reference's value
-module _ (N : ℕ) (assignment bytes : List ℕ) (x : ℕ) where
-  pub reads-constant : x < 2 → ReferenceRead N assignment bytes x (eqb x 1)
-  unfolding referenceValue
-  reads-constant small = record { value = λ k l. rw (lt-ltb x 2 small) refl }
+    size : length vs ≡ k
+    size = circuit-length N σ (gatesOf t k) ∙ length-gatesOf t k
 
-  pub reads-gate : (r : Bool) → 2 + 2 * N ≤ x → r ≡ keptAt bytes (x - (2 + 2 * N)) → ReferenceRead N assignment bytes x r
-  unfolding referenceValue valuesIn
-  reads-gate r large e =
-      record {
-        value = λ k l. e ∙ rw (le-ltb x 2 (omega arith), le-ltb x (2 + 2 * N) large) (sym (getD-tabulate k (keptAt bytes) false (x - (2 + 2 * N)) (omega arith)));
-      }
+    new : Bool
+    new = gateValue N σ vs (gateAt t k)
 
-  pub reads-positive : (r : Bool) → 2 ≤ x → x < 2 + 2 * N → x % 2 ≡ 0 → r ≡ has assignment ((x - 2) / 2) → ReferenceRead N assignment bytes x r
-  unfolding referenceValue
-  reads-positive r large small even e = record { value = λ k l. rw (le-ltb x 2 large, lt-ltb x (2 + 2 * N) small, eq-eqb (x % 2) 0 even) e }
+    next : values N σ [] (gatesOf t (k + 1)) ≡ vs ++ (new ∷ [])
+    next = let one : k + 1 ≡ suc k = omega arith in rw one (values-next N σ t k)
 
-  pub reads-negative : (r : Bool) → 2 ≤ x → x < 2 + 2 * N → (x % 2 ≡ 0 → ⊥) → r ≡ has assignment ((x - 2) / 2) → ReferenceRead N assignment bytes x (not r)
-  unfolding referenceValue
-  reads-negative r large small odd e = record { value = λ k l. rw (le-ltb x 2 large, lt-ltb x (2 + 2 * N) small, ne-eqb (x % 2) 0 odd) (ap not e) }
+    last : getD (vs ++ (new ∷ [])) k false ≡ new
+    last = subst (λ (n : ℕ). getD (vs ++ (new ∷ [])) n false ≡ new) size (getD-append-seam vs new [] false)
+
+    go : (r : ℕ) → r < gateReference N (k + 1) → (p : Bool) → eqb r (gateReference N k) ≡ p
+        → getD (set bytes (gateReference N k) b) r 0 ≡ digit (referenceValue N σ (values N σ [] (gatesOf t (k + 1))) r)
+    go r l true f =
+        let at : r ≡ gateReference N k = eqb-true r (gateReference N k) f in
+        rw (next, at) (getD-set-same bytes (gateReference N k) b 0 room ∙ e ∙ ap digit (sym (value-gate N σ (vs ++ (new ∷ [])) k ∙ last)))
+    go r l false f =
+        let other = eqb-false r (gateReference N k) f in
+        rw next
+        (getD-set-other bytes (gateReference N k) r b 0 (omega arith) ∙ known .byte r (omega arith)
+        ∙ ap digit (sym (value-earlier N σ vs (new ∷ []) r (omega (arith, size)))))
 
 -- 20 and 21
 module _ (h most : ℕ) (assignment t : List ℕ) where
@@ -285,12 +348,19 @@ module _ (h most : ℕ) (assignment t : List ℕ) where
   unfolding lengthNumber
   lengths-passed e = none-passed (lengthTests h most assignment t) lengths-numbered (sym e)
 
+  pub lengths-size : 0 ≡ lengthNumber h most assignment t → length assignment ≡ h
+  unfolding lengthTests
+  lengths-size e = eqb-true (length assignment) h (lengths-passed e .0)
+
   pub lengths-few : 0 ≡ lengthNumber h most assignment t → length t / 8 ≤ most
   unfolding lengthTests
   lengths-few e =
       let both = and-both (eqb (length t % 8) 0) (leb (length t) (8 * most)) (lengths-passed e .1 .0) in
       let few = leb-true (length t) (8 * most) (both .1) in
       omega arith
+
+  pub root-there : 0 ≡ lengthNumber h most assignment t → (root : ℕ) → root < gateReference (8 * h) (records 8 t) → root < 2 + 16 * h + most
+  root-there e root there = let few = lengths-few e in omega arith
 
   -- the whole evaluation
   module _ (root : ℕ) where
@@ -320,25 +390,26 @@ module _ (h most : ℕ) (assignment t : List ℕ) where
       gates-passed-all : r .number ≡ 0 → Passed (gatesTests (8 * h) t (records 8 t))
       gates-passed-all good = none-passed (gatesTests (8 * h) t (records 8 t)) (gates-numbered (8 * h) t (records 8 t)) (sym (ran .number) ∙ good)
 
-      pub evaluated-root : r .number ≡ 0 → ltb root (gateReference (8 * h) (records 8 t)) ≡ false → Evaluates (evaluated h most assignment t root) (record { number = 24; place = 0; value = 0 })
+      pub evaluated-root : r .number ≡ 0 → gateReference (8 * h) (records 8 t) ≤ root → Evaluates (evaluated h most assignment t root) (record { number = 24; place = 0; value = 0 })
       unfolding evaluated referenceTests
       evaluated-root good late =
           let x = value (8 * h) (has assignment) (gatesOf t (records 8 t)) root in
           let last = referenceTests (8 * h) root (records 8 t) in
           answers-by (firstFailed (evaluationTests h most assignment t root)) (firstFailed last) x (record { number = 24; place = 0; value = 0 })
           (root-decides h most assignment t root (lengths-passed lengths) (gates-passed-all good))
-          (answers-refused last x 24 0 (refl, tt) (sym (ap (λ (v : Verdict). v .number) (fails (ltb root (gateReference (8 * h) (records 8 t))) 24 0 [] late))) (λ z. absurd (omega arith)))
+          (answers-refused last x 24 0 (refl, tt) (sym (ap (λ (v : Verdict). v .number) (fails (ltb root (gateReference (8 * h) (records 8 t))) 24 0 [] (le-ltb root (gateReference (8 * h) (records 8 t)) late)))) (λ z. absurd (omega arith)))
 
-      pub evaluated-value : r .number ≡ 0 → ltb root (gateReference (8 * h) (records 8 t)) ≡ true → (b read : Bool) → read ≡ b → ReferenceRead (8 * h) assignment bytes root read
-          → Evaluates (evaluated h most assignment t root) (record { number = 0; place = 0; value = digit b })
+      pub evaluated-value : r .number ≡ 0 → root < gateReference (8 * h) (records 8 t)
+          → Evaluates (evaluated h most assignment t root) (record { number = 0; place = 0; value = getD bytes root 0 })
       unfolding evaluated referenceTests
-      evaluated-value good there b read e reads =
+      evaluated-value good there =
           let x = value (8 * h) (has assignment) (gatesOf t (records 8 t)) root in
           let last = referenceTests (8 * h) root (records 8 t) in
-          answers-by (firstFailed (evaluationTests h most assignment t root)) (firstFailed last) x (record { number = 0; place = 0; value = digit b })
+          answers-by (firstFailed (evaluationTests h most assignment t root)) (firstFailed last) x (record { number = 0; place = 0; value = getD bytes root 0 })
           (root-decides h most assignment t root (lengths-passed lengths) (gates-passed-all good))
-          (answers-value last x b (there, tt)
-          (sym e ∙ reads .value (records 8 t) (ltb-true root (gateReference (8 * h) (records 8 t)) there) ∙ ap (λ (vs : List Bool). referenceValue (8 * h) (has assignment) vs root) (ran .kept good)))
+          (subst (λ (n : ℕ). Evaluates (answered (firstFailed last) x) (record { number = 0; place = 0; value = n }))
+          (sym (ran .kept good .byte root there))
+          (answers-value last x x (lt-ltb root (gateReference (8 * h) (records 8 t)) there, tt) refl))
 
 -- a gate's bytes, read from the table
 module _ (t : List ℕ) (k : ℕ) (inside : 8 * k + 8 ≤ length t) where
@@ -371,38 +442,65 @@ gate-is t k g read =
     ap (λ (x : ℕ). record { kind = x; left = g .left; right = g .right }) (read .kind)
     ∙ ap₂ (λ (x y : ℕ). record { kind = gateAt t k .kind; left = x; right = y }) (read .left) (read .right)
 
--- a turn of the loop over the gates
-module _ (N : ℕ) (assignment t bytes : List ℕ) (k : ℕ) (r : Evaluated) (turned : Turned N assignment t k bytes r) where
+-- a turn of the loop over the gates: the part has the values of the references before gate k
+module _ (N : ℕ) (assignment t bytes part : List ℕ) (k : ℕ) (r : Evaluated)
+    (known : Known N (has assignment) (values N (has assignment) [] (gatesOf t k)) k bytes)
+    (size : length part ≡ gateReference N k) (before : (i : ℕ) → i < gateReference N k → getD part i 0 ≡ getD bytes i 0)
+    (turned : Evaluates (recordEvaluated t k part) r) where
+  kept-is : (i : ℕ) → i < gateReference N k → keptAt part i ≡ referenceValue N (has assignment) (values N (has assignment) [] (gatesOf t k)) i
+  unfolding keptAt
+  kept-is i l = ap (λ (x : ℕ). bitOf x 0) (before i l ∙ known .byte i l) ∙ lowest-digit (referenceValue N (has assignment) (values N (has assignment) [] (gatesOf t k)) i)
+
+  kept-value : Passed (gateTests N t k) → keptValue part (gateAt t k) ≡ gateValue N (has assignment) (values N (has assignment) [] (gatesOf t k)) (gateAt t k)
+  unfolding gateValue
+  kept-value passed =
+      let inputs = form-inputs (gateReference N k) k (gateAt t k) (passed .1) in
+      ap₂ (kindValue (gateAt t k .kind)) (kept-is (gateAt t k .left) (inputs .0)) (kept-is (gateAt t k .right) (inputs .1))
+
+  answer-is : (b : Bool) → refused (firstFailed (gateTests N t k)) ≡ b
+      → cond b 0 (digit (keptValue part (gateAt t k))) ≡ cond b 0 (digit (gateValue N (has assignment) (values N (has assignment) [] (gatesOf t k)) (gateAt t k)))
+  answer-is true e = refl
+  answer-is false e =
+      ap digit (kept-value (none-passed (gateTests N t k) (gate-numbered (gateReference N k) t k) (not-refused (firstFailed (gateTests N t k)) e)))
+
+  turn-answer : Evaluates (answered (firstFailed (gateTests N t k)) (gateValue N (has assignment) (values N (has assignment) [] (gatesOf t k)) (gateAt t k))) r
+  unfolding recordEvaluated
+  turn-answer =
+      let here : Evaluates (answered (firstFailed (gateTests N t k)) (keptValue part (gateAt t k))) r =
+      subst (λ (own : ℕ). Evaluates (answered (firstFailed (recordTests own t k)) (keptValue part (gateAt t k))) r) size turned in
+      record { number = here .number; place = here .place; value = here .value ∙ answer-is (refused (firstFailed (gateTests N t k))) refl }
+
   pub turn-small : r .value < 256
   turn-small =
-      omega (arith, turned .answer .value, answer-small (firstFailed (gateTests N t k)) (gateValue N (has assignment) (valuesIn k bytes) (gateAt t k)))
+      omega (arith, turn-answer .value, answer-small (firstFailed (gateTests N t k)) (gateValue N (has assignment) (values N (has assignment) [] (gatesOf t k)) (gateAt t k)))
 
   pub turn-stops : (last : List ℕ) → k < records 8 t → Passed (gatesTests N t k) → (r .number ≡ 0 → ⊥) → Ran N assignment t last (record { number = r .number; place = r .place })
   turn-stops last l before bad =
       let e : suc (k + (length t / 8 - suc k)) ≡ length t / 8 = omega arith in
-      let stop = gates-stop N t k (length t / 8 - suc k) (length t / 8) e before (λ z. bad (turned .answer .number ∙ z)) in
+      let stop = gates-stop N t k (length t / 8 - suc k) (length t / 8) e before (λ z. bad (turn-answer .number ∙ z)) in
       record {
-        number = turned .answer .number ∙ sym (ap (λ (v : Verdict). v .number) stop);
-        place = turned .answer .place ∙ sym (ap (λ (v : Verdict). v .place) stop);
+        number = turn-answer .number ∙ sym (ap (λ (v : Verdict). v .number) stop);
+        place = turn-answer .place ∙ sym (ap (λ (v : Verdict). v .place) stop);
         kept = λ z. absurd (bad z);
       }
 
   pub turn-passes : Passed (gatesTests N t k) → r .number ≡ 0 → Passed (gatesTests N t (k + 1))
-  turn-passes before good = gates-next N t k before (sym (turned .answer .number) ∙ good)
+  turn-passes before good = gates-next N t k before (sym (turn-answer .number) ∙ good)
 
-  pub turn-keeps : r .number ≡ 0 → k < length bytes → valuesIn k bytes ≡ values N (has assignment) [] (gatesOf t k)
-      → valuesIn (k + 1) (set bytes k (r .value)) ≡ values N (has assignment) [] (gatesOf t (k + 1))
-  turn-keeps good l so-far =
-      kept-next N (has assignment) t bytes k (r .value) l so-far
-      (turned .answer .value ∙ answer-value (firstFailed (gateTests N t k)) (gateValue N (has assignment) (valuesIn k bytes) (gateAt t k)) (sym (turned .answer .number) ∙ good))
+  pub turn-keeps : r .number ≡ 0 → gateReference N k < length bytes
+      → Known N (has assignment) (values N (has assignment) [] (gatesOf t (k + 1))) (k + 1) (set bytes (gateReference N k) (r .value))
+  turn-keeps good l =
+      known-next N (has assignment) t bytes k (r .value) l known
+      (turn-answer .value
+      ∙ answer-value (firstFailed (gateTests N t k)) (gateValue N (has assignment) (values N (has assignment) [] (gatesOf t k)) (gateAt t k)) (sym (turn-answer .number) ∙ good))
 
-pub all-turned : (N : ℕ) (assignment t bytes : List ℕ) (k : ℕ) → k ≡ records 8 t → Passed (gatesTests N t k) → valuesIn k bytes ≡ values N (has assignment) [] (gatesOf t k)
-    → Ran N assignment t bytes (record { number = 0; place = 0 })
-all-turned N assignment t bytes k e passed so-far =
+pub all-turned : (N : ℕ) (assignment t bytes : List ℕ) (k : ℕ) → k ≡ records 8 t → Passed (gatesTests N t k)
+    → Known N (has assignment) (values N (has assignment) [] (gatesOf t k)) k bytes → Ran N assignment t bytes (record { number = 0; place = 0 })
+all-turned N assignment t bytes k e passed known =
     let none = passed-none (gatesTests N t k) passed ∙ no-test in
     let all = ap (λ (n : ℕ). firstFailed (gatesTests N t n)) (sym e) ∙ none in
     record {
       number = sym (ap (λ (v : Verdict). v .number) all);
       place = sym (ap (λ (v : Verdict). v .place) all);
-      kept = λ z. subst (λ (n : ℕ). valuesIn n bytes ≡ values N (has assignment) [] (gatesOf t n)) e so-far;
+      kept = λ z. subst (λ (n : ℕ). Known N (has assignment) (values N (has assignment) [] (gatesOf t n)) n bytes) e known;
     }

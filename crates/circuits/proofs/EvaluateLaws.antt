@@ -74,7 +74,7 @@ module _ (h most : ℕ) (assignment t : List ℕ) (root : ℕ) where
         ∙ after-passed (gatesTests (8 * h) t (records 8 t)) (referenceTests (8 * h) root (records 8 t)) before
 
 -- formed gates pass their tests
-pub form-passed : (N k : ℕ) (g : Gate) → Formed N k g → Passed (formTests N k g)
+pub form-passed : (N k : ℕ) (g : Gate) → Formed N k g → Passed (formTests (gateReference N k) k g)
 unfolding formTests
 form-passed N k g formed = (formed .0, (rw (lt-ltb (g .left) (gateReference N k) (formed .1), lt-ltb (g .right) (gateReference N k) (formed .2)) refl, tt))
 

@@ -2,12 +2,11 @@
 use Prim.Native.Nat.{ℕ}
 use mathlib.Core.Path.{_≡_, sym, _∙_}
 use mathlib.Core.List.{List}
-use Rattle.records.specs.Clause.{has}
 use Rattle.circuits.specs.declared.checking.Answer.{Answer}
 use Rattle.circuits.specs.declared.evaluation.Evaluated.{Evaluated}
 use Rattle.circuits.specs.Gate.{gateWritten}
 use Rattle.circuits.specs.Check.{plainChecked, Checks}
-use Rattle.circuits.specs.Evaluate.{valuesIn, gateEvaluated, evaluated, Evaluates}
+use Rattle.circuits.specs.Evaluate.{gateEvaluated, evaluated, Evaluates}
 
 -- what equals the same is equal
 same : {A : Type 0} {x y z : A} → x ≡ z → y ≡ z → x ≡ y
@@ -39,8 +38,7 @@ pub evaluate-unique : (assignment table : List ℕ) (root : ℕ) (r r′ : Evalu
     → Evaluates (evaluated 32 3072 assignment table root) r → Evaluates (evaluated 32 3072 assignment table root) r′ → r ≡ r′
 evaluate-unique assignment table root = evaluates-unique (evaluated 32 3072 assignment table root)
 
-pub evaluate-gate-unique : (kind left right k : ℕ) (assignment values : List ℕ) (r r′ : Evaluated)
-    → Evaluates (gateEvaluated 256 (has assignment) (valuesIn k values) k (record { kind = kind; left = left; right = right })) r
-    → Evaluates (gateEvaluated 256 (has assignment) (valuesIn k values) k (record { kind = kind; left = left; right = right })) r′ → r ≡ r′
-evaluate-gate-unique kind left right k assignment values =
-    evaluates-unique (gateEvaluated 256 (has assignment) (valuesIn k values) k (record { kind = kind; left = left; right = right }))
+pub evaluate-gate-unique : (kind left right k : ℕ) (values : List ℕ) (r r′ : Evaluated)
+    → Evaluates (gateEvaluated values k (record { kind = kind; left = left; right = right })) r
+    → Evaluates (gateEvaluated values k (record { kind = kind; left = left; right = right })) r′ → r ≡ r′
+evaluate-gate-unique kind left right k values = evaluates-unique (gateEvaluated values k (record { kind = kind; left = left; right = right }))

@@ -1,20 +1,19 @@
 -- "Evaluating takes an assignment, a gate table and a root reference. It returns number, place and value, writes nothing, and a refusal has value 0."
 use Prim.Native.Nat.{ℕ, zero, suc, _*_, _%_}
 use mathlib.Core.Path.{_≡_}
-use mathlib.Core.Bool.{Bool, not, _&&_, _||_, cond}
+use mathlib.Core.Bool.{Bool, _&&_, _||_, cond}
 use mathlib.Core.List.{List, [], _∷_, _++_}
 use lib.ListN.{length, getD}
 use lib.Dec.{eqb, leb, ltb}
 use Rattle.records.specs.declared.tests.Verdict.{Verdict}
-use Rattle.records.specs.Bits.{digit}
-use Rattle.records.specs.Lists.{tabulate}
+use Rattle.records.specs.Bits.{bitOf, digit}
 use Rattle.records.specs.Clause.{has}
 use Rattle.records.specs.Table.{records}
 use Rattle.records.specs.Tests.{Test, test, firstFailed, refused}
 use Rattle.circuits.specs.declared.evaluation.Evaluated.{Evaluated}
 use Rattle.circuits.specs.Reference.{gateReference}
 use Rattle.circuits.specs.Gate.{Gate, gateAt, spareAt, gatesOf}
-use Rattle.circuits.specs.Value.{gateValue, value}
+use Rattle.circuits.specs.Value.{kindValue, value}
 
 -- r gives number, place and value of e
 pub record Evaluates (e r : Evaluated) : Type 0 where
@@ -33,16 +32,19 @@ lengthTests h most assignment table =
     ∷ (test (eqb (length table % 8) 0 && leb (length table) (8 * most)) 21 0
     ∷ [])
 
--- "22: byte 0 not 1 or 2 ..; 23: an input of gate k is 514 + k or above", of a gate on plain numbers
+-- "22: byte 0 not 1 or 2 ..; 23: an input of gate k is 514 + k or above", of a gate on plain numbers whose own reference is given
 unfoldable pub formTests : ℕ → ℕ → Gate → List Test
-formTests N k g =
+formTests own k g =
     test (eqb (g .kind) 1 || eqb (g .kind) 2) 22 k
-    ∷ (test (ltb (g .left) (gateReference N k) && ltb (g .right) (gateReference N k)) 23 k
+    ∷ (test (ltb (g .left) own && ltb (g .right) own) 23 k
     ∷ [])
 
 -- ".. or byte 1, 6 or 7 not zero": gate k of a table
+abbrev pub recordTests : ℕ → List ℕ → ℕ → List Test
+recordTests own table k = test (spareAt table k) 22 k ∷ formTests own k (gateAt table k)
+
 abbrev pub gateTests : ℕ → List ℕ → ℕ → List Test
-gateTests N table k = test (spareAt table k) 22 k ∷ formTests N k (gateAt table k)
+gateTests N table k = recordTests (gateReference N k) table k
 
 -- "Then by gate, from 0": the first k gates
 unfoldable pub gatesTests : ℕ → List ℕ → ℕ → List Test
@@ -53,17 +55,17 @@ gatesTests N table (suc k) = gatesTests N table k ++ gateTests N table k
 unfoldable pub referenceTests : ℕ → ℕ → ℕ → List Test
 referenceTests N root count = test (ltb root (gateReference N count)) 24 0 ∷ []
 
--- the value that is kept for gate i, a byte a gate: a byte that is not zero is true, and one that is not there false
+-- the value that is kept for a reference, a byte a reference: the byte's lowest bit
 unfoldable pub keptAt : List ℕ → ℕ → Bool
-keptAt bytes i = not (eqb (getD bytes i 0) 0)
+keptAt bytes r = bitOf (getD bytes r 0) 0
 
--- the values of the first k gates
-unfoldable pub valuesIn : ℕ → List ℕ → List Bool
-valuesIn k bytes = tabulate k (keptAt bytes)
+-- the AND/OR of the values that are kept for a gate's two inputs
+abbrev pub keptValue : List ℕ → Gate → Bool
+keptValue bytes g = kindValue (g .kind) (keptAt bytes (g .left)) (keptAt bytes (g .right))
 
--- one gate behind gates with the values vs
-unfoldable pub gateEvaluated : ℕ → (ℕ → Bool) → List Bool → ℕ → Gate → Evaluated
-gateEvaluated N assignment vs k g = answered (firstFailed (formTests N k g)) (gateValue N assignment vs g)
+-- one gate, gate k, behind the references whose values are kept: its own reference is their number
+unfoldable pub gateEvaluated : List ℕ → ℕ → Gate → Evaluated
+gateEvaluated bytes k g = answered (firstFailed (formTests (length bytes) k g)) (keptValue bytes g)
 
 -- all tests in their order
 unfoldable pub evaluationTests : ℕ → ℕ → List ℕ → List ℕ → ℕ → List Test

@@ -1,8 +1,11 @@
 -- What the private pieces of the evaluation ask and promise. No public contract speaks of these.
-use Prim.Native.Nat.{ℕ, _<_}
+use Prim.Native.Nat.{ℕ, _+_, _*_, _/_, _%_, _<_}
 use mathlib.Core.Path.{_≡_}
-use mathlib.Core.Bool.{Bool}
+use mathlib.Core.Bool.{Bool, not}
 use mathlib.Core.List.{List, []}
+use lib.Dec.{eqb}
+use lib.ListN.{length, getD}
+use Rattle.records.specs.Bits.{digit}
 use Rattle.records.specs.declared.tests.Verdict.{Verdict}
 use Rattle.records.specs.Clause.{has}
 use Rattle.records.specs.Table.{records}
@@ -11,16 +14,12 @@ use Rattle.circuits.specs.declared.evaluation.GateRecord.{GateRecord}
 use Rattle.circuits.specs.declared.evaluation.Evaluated.{Evaluated}
 use Rattle.circuits.specs.Reference.{gateReference}
 use Rattle.circuits.specs.Gate.{gateAt, spareAt, gatesOf}
-use Rattle.circuits.specs.Value.{referenceValue, gateValue, values}
-use Rattle.circuits.specs.Evaluate.{lengthTests, formTests, gateTests, gatesTests, valuesIn, answered, Evaluates}
+use Rattle.circuits.specs.Value.{referenceValue, values}
+use Rattle.circuits.specs.Evaluate.{answered, lengthTests, recordTests, gatesTests, keptValue}
 
 -- 20, 21 or 0
 unfoldable pub lengthNumber : ℕ → ℕ → List ℕ → List ℕ → ℕ
 lengthNumber h most assignment table = firstFailed (lengthTests h most assignment table) .number
-
--- 22, 23 or 0
-unfoldable pub formNumber : ℕ → ℕ → ℕ → ℕ → ℕ → ℕ
-formNumber N kind left right k = firstFailed (formTests N k (record { kind = kind; left = left; right = right })) .number
 
 -- g is gate k of the table, field by field
 pub record GateRead (table : List ℕ) (k : ℕ) (g : GateRecord) : Type 0 where
@@ -29,21 +28,25 @@ pub record GateRead (table : List ℕ) (k : ℕ) (g : GateRecord) : Type 0 where
   pub right : g .right ≡ gateAt table k .right
   pub spare : g .spare ≡ spareAt table k
 
--- r is the reference's value, behind any number of gates of which it is not past the last
-pub record ReferenceRead (N : ℕ) (assignment bytes : List ℕ) (reference : ℕ) (r : Bool) : Type 0 where
-  pub value : (k : ℕ) → reference < gateReference N k → r ≡ referenceValue N (has assignment) (valuesIn k bytes) reference
+-- r has the values of a variable's literals by its bit, the positive one's in its low byte
+pub record Paired (bit r : ℕ) : Type 0 where
+  pub first : r % 256 ≡ digit (eqb bit 1)
+  pub second : r / 256 ≡ digit (not (eqb bit 1))
 
--- and that of a gate
-pub record GateValued (N kind left right : ℕ) (assignment bytes : List ℕ) (r : Bool) : Type 0 where
-  pub value : (k : ℕ) → left < gateReference N k → right < gateReference N k
-      → r ≡ gateValue N (has assignment) (valuesIn k bytes) (record { kind = kind; left = left; right = right })
+-- the bytes are the values of the constants and of both literals of the first v variables
+pub record Filled (N : ℕ) (assignment : List ℕ) (v : ℕ) (bytes : List ℕ) : Type 0 where
+  pub byte : (r : ℕ) → r < 2 + 2 * v → getD bytes r 0 ≡ digit (referenceValue N (has assignment) [] r)
 
--- gate k of a table, all its tests and its value
-pub record Turned (N : ℕ) (assignment table : List ℕ) (k : ℕ) (bytes : List ℕ) (r : Evaluated) : Type 0 where
-  pub answer : Evaluates (answered (firstFailed (gateTests N table k)) (gateValue N (has assignment) (valuesIn k bytes) (gateAt table k))) r
+-- the bytes are the values of all references behind k gates, whose values are vs
+pub record Known (N : ℕ) (σ : ℕ → Bool) (vs : List Bool) (k : ℕ) (bytes : List ℕ) : Type 0 where
+  pub byte : (r : ℕ) → r < gateReference N k → getD bytes r 0 ≡ digit (referenceValue N σ vs r)
 
--- r gives the first refusal of all gates of a table, or 0 and 0; then the bytes are their values
+-- gate k of a table behind the references whose values are kept
+unfoldable pub recordEvaluated : List ℕ → ℕ → List ℕ → Evaluated
+recordEvaluated table k bytes = answered (firstFailed (recordTests (length bytes) table k)) (keptValue bytes (gateAt table k))
+
+-- r gives the first refusal of all gates of a table, or 0 and 0; then the bytes are the values of all references
 pub record Ran (N : ℕ) (assignment table bytes : List ℕ) (r : Verdict) : Type 0 where
   pub number : r .number ≡ firstFailed (gatesTests N table (records 8 table)) .number
   pub place : r .place ≡ firstFailed (gatesTests N table (records 8 table)) .place
-  pub kept : r .number ≡ 0 → valuesIn (records 8 table) bytes ≡ values N (has assignment) [] (gatesOf table (records 8 table))
+  pub kept : r .number ≡ 0 → Known N (has assignment) (values N (has assignment) [] (gatesOf table (records 8 table))) (records 8 table) bytes

@@ -1,15 +1,13 @@
-// Evaluating: one gate on plain numbers, and a gate table under an assignment. It writes nothing but the values it keeps, a byte a gate.
+// Evaluating: one gate on plain numbers, and a gate table under an assignment. It writes nothing but the values it keeps: of a table a
+// byte a reference, so that an input's value is one lookup, whatever the input is.
 //
 // The pieces take the number of variables, or the half, and the slice of values; `evaluate` fixes them.
 ghost use mathlib.Core.Path.{_≡_};
 ghost use Prim.Native.Nat.{_+_, _*_, _/_, _<_, _≤_};
-ghost use lib.Dec.{ltb};
 ghost use lib.ListN.{length};
-ghost use Rattle.records.specs.Clause.{has};
 ghost use Rattle.records.specs.Step.{pairAt};
-ghost use Rattle.circuits.specs.Reference.{gateReference};
-ghost use Rattle.circuits.specs.Evaluate.{valuesIn, gateEvaluated, evaluated, keptAt, Evaluates};
-ghost use Rattle.circuits.specs.EvaluateInside.{lengthNumber, formNumber, GateRead, ReferenceRead, GateValued, Turned, Ran};
+ghost use Rattle.circuits.specs.Evaluate.{gateEvaluated, evaluated, Evaluates};
+ghost use Rattle.circuits.specs.EvaluateInside.{lengthNumber, GateRead, Paired, Filled, recordEvaluated, Ran};
 
 // A refusal's number and place with value 0, or 0, 0 and the value, 0 or 1.
 #[repr(C)]
@@ -17,6 +15,17 @@ pub struct Evaluated {
     pub number: usize,
     pub place: usize,
     pub value: usize,
+}
+
+// "A refusal has value 0."
+fn refuse(number: usize, place: usize) -> Evaluated
+    ensures { λ r. ⌜ r ≡ record { number = number; place = place; value = 0 } ⌝ }
+{
+    Evaluated {
+        number,
+        place,
+        value: 0,
+    }
 }
 
 // A gate's numbers, and whether its spare bytes are zero.
@@ -27,136 +36,32 @@ struct GateRecord {
     spare: bool,
 }
 
-// Whether a reference is below that of gate k. k and the reference may be as large as a usize gets.
-fn is_below(variables: usize, reference: usize, k: usize) -> bool
-    requires { ⌜ variables ≤ 512 ⌝ }
-    ensures { λ r. ⌜ r ≡ ltb reference (gateReference variables k) ⌝ }
-{
-    let base = 2 + 2 * variables;
-    if reference < base {
-        return true;
-    }
-    reference - base < k
-}
-
-// The value that is kept for gate i: false where there is none.
-fn kept(values: &[u8], i: usize) -> bool
-    ensures { λ r. ⌜ r ≡ keptAt (now (values .entry)) i ⌝ }
-{
-    if values.len() <= i {
-        return false;
-    }
-    values[i] != 0
-}
-
-// The value of a reference.
-fn reference_value(variables: usize, assignment: &[u8], values: &[u8], reference: usize) -> bool
-    requires { ⌜ variables ≤ 512 ⌝ }
-    ensures { λ r. ⌜ ReferenceRead variables (now (assignment .entry)) (now (values .entry)) reference r ⌝ }
-{
-    if reference < 2 {
-        return reference == 1;
-    }
-    let base = 2 + 2 * variables;
-    if base <= reference {
-        return kept(values, reference - base);
-    }
-    let bit = records::has_literal(assignment, (reference - 2) / 2);
-    if reference % 2 == 0 {
-        return bit;
-    }
-    !bit
-}
-
-// The value of a gate.
-fn gate_value(
-    variables: usize,
-    kind: usize,
-    left: usize,
-    right: usize,
-    assignment: &[u8],
-    values: &[u8],
-) -> bool
-    requires { ⌜ variables ≤ 512 ⌝ }
-    ensures { λ r. ⌜ GateValued variables kind left right (now (assignment .entry)) (now (values .entry)) r ⌝ }
-{
-    let first = reference_value(variables, assignment, values, left);
-    let second = reference_value(variables, assignment, values, right);
-    if kind == 1 {
-        return first & second;
-    }
-    first | second
-}
-
-// Tests 22, by kind, and 23 of gate k: the number of the refusal, or 0.
-fn test_form(variables: usize, kind: usize, left: usize, right: usize, k: usize) -> usize
-    requires { ⌜ variables ≤ 512 ⌝ }
-    ensures { λ r. ⌜ r ≡ formNumber variables kind left right k ⌝ }
+// One gate on plain numbers, gate k, behind the references whose values are given, a byte each, of which the lowest bit counts: the gate's
+// own reference is their number. 22 by kind, 23, or the gate's value. A branch on the kind would be guessed wrong half of the time: half
+// the kind, 0 or 1, lets the OR through.
+pub fn evaluate_gate(kind: usize, left: usize, right: usize, k: usize, values: &[u8]) -> Evaluated
+    ensures { λ r. ⌜ Evaluates (gateEvaluated (now (values .entry)) k (record { kind = kind; left = left; right = right })) r ⌝ }
 {
     if kind < 1 {
-        return 22;
+        return refuse(22, k);
     }
     if 2 < kind {
-        return 22;
+        return refuse(22, k);
     }
-    if !is_below(variables, left, k) {
-        return 23;
+    if values.len() <= left {
+        return refuse(23, k);
     }
-    if !is_below(variables, right, k) {
-        return 23;
+    if values.len() <= right {
+        return refuse(23, k);
     }
-    0
-}
-
-// One gate over the number of variables.
-fn evaluate_form(
-    variables: usize,
-    kind: usize,
-    left: usize,
-    right: usize,
-    k: usize,
-    assignment: &[u8],
-    values: &[u8],
-) -> Evaluated
-    requires { ⌜ variables ≤ 512 ⌝ }
-    ensures { λ r. ⌜ Evaluates (gateEvaluated variables (has (now (assignment .entry))) (valuesIn k (now (values .entry))) k (record { kind = kind; left = left; right = right })) r ⌝ }
-{
-    let number = test_form(variables, kind, left, right, k);
-    if number != 0 {
-        return Evaluated {
-            number,
-            place: k,
-            value: 0,
-        };
-    }
-    let value = gate_value(variables, kind, left, right, assignment, values);
-    if value {
-        return Evaluated {
-            number: 0,
-            place: 0,
-            value: 1,
-        };
-    }
+    let first = values[left] as usize;
+    let second = values[right] as usize;
+    let value = ((first & second) | ((first | second) & (kind / 2))) % 2;
     Evaluated {
         number: 0,
         place: 0,
-        value: 0,
+        value,
     }
-}
-
-// One gate on plain numbers, gate k, behind k gates whose values are kept a byte a gate: a byte that is not zero is true, one that is not
-// there false, and so is a variable past the assignment's end.
-pub fn evaluate_gate(
-    kind: usize,
-    left: usize,
-    right: usize,
-    k: usize,
-    assignment: &[u8],
-    values: &[u8],
-) -> Evaluated
-    ensures { λ r. ⌜ Evaluates (gateEvaluated 256 (has (now (assignment .entry))) (valuesIn k (now (values .entry))) k (record { kind = kind; left = left; right = right })) r ⌝ }
-{
-    evaluate_form(256, kind, left, right, k, assignment, values)
 }
 
 // The number in two bytes, little endian.
@@ -185,16 +90,10 @@ fn read_gate(table: &[u8], k: usize) -> GateRecord
     }
 }
 
-// Gate k of a table that has it, behind k gates whose values are kept.
-fn evaluate_record(
-    variables: usize,
-    assignment: &[u8],
-    table: &[u8],
-    k: usize,
-    values: &[u8],
-) -> Evaluated
-    requires { ⌜ (variables ≤ 512) × (8 * k + 8 ≤ length (now table)) ⌝ }
-    ensures { λ r. ⌜ Turned variables (now (assignment .entry)) (now (table .entry)) k (now (values .entry)) r ⌝ }
+// Gate k of a table that has it, behind references whose values are kept.
+fn evaluate_record(table: &[u8], k: usize, values: &[u8]) -> Evaluated
+    requires { ⌜ 8 * k + 8 ≤ length (now table) ⌝ }
+    ensures { λ r. ⌜ Evaluates (recordEvaluated (now (table .entry)) k (now (values .entry))) r ⌝ }
 {
     let gate = read_gate(table, k);
     let kind = gate.kind;
@@ -202,36 +101,78 @@ fn evaluate_record(
     let right = gate.right;
     let spare = gate.spare;
     if !spare {
-        return Evaluated {
-            number: 22,
-            place: k,
-            value: 0,
-        };
+        return refuse(22, k);
     }
-    evaluate_form(variables, kind, left, right, k, assignment, values)
+    evaluate_gate(kind, left, right, k, values)
+}
+
+// The values of a variable's literals by its bit, as two bytes of one number, the positive literal's first: with the number the compiler
+// writes many of them at once.
+fn literal_pair(bit: u8) -> u16
+    ensures { λ r. ⌜ Paired bit r ⌝ }
+{
+    if bit == 1 {
+        return 1;
+    }
+    256
+}
+
+// The values of the literals of byte j of the assignment, behind those of the bytes before it.
+fn fill_byte(variables: usize, assignment: &[u8], j: usize, values: &mut [u8])
+    requires { ⌜ (variables ≤ 512) × (j < length (now assignment)) × (8 * j + 8 ≤ variables) × (2 + 2 * variables ≤ length (now values)) × Filled variables (now assignment) (8 * j) (now values) ⌝ }
+    ensures { λ r. ⌜ Filled variables (now (assignment .entry)) (8 * (j + 1)) (now (values .exit)) ⌝ }
+{
+    let byte = assignment[j];
+    let mut k: usize = 0;
+    while k < 8 {
+        let v = 8 * j + k;
+        let place = k as u8;
+        let pair = literal_pair((byte >> place) % 2);
+        values[2 + 2 * v] = (pair % 256) as u8;
+        values[3 + 2 * v] = (pair / 256) as u8;
+        k += 1;
+    }
+}
+
+// The values of the constants and of all literals.
+fn fill_literals(half: usize, assignment: &[u8], values: &mut [u8])
+    requires { ⌜ (half ≤ 64) × (half ≤ length (now assignment)) × (2 + 16 * half ≤ length (now values)) ⌝ }
+    ensures { λ r. ⌜ Filled (8 * half) (now (assignment .entry)) (8 * half) (now (values .exit)) ⌝ }
+{
+    values[0] = 0;
+    values[1] = 1;
+    let variables = 8 * half;
+    let mut j: usize = 0;
+    while j < half {
+        fill_byte(variables, assignment, j, values);
+        j += 1;
+    }
 }
 
 // All gates of a table in order, up to the first that is refused; each value is kept. The number of the refusal and its gate, or 0 and 0.
 fn evaluate_gates(
-    variables: usize,
+    half: usize,
     assignment: &[u8],
     table: &[u8],
     values: &mut [u8],
 ) -> records::Verdict
-    requires { ⌜ (variables ≤ 512) × (length (now table) / 8 ≤ length (now values)) ⌝ }
-    ensures { λ r. ⌜ Ran variables (now (assignment .entry)) (now (table .entry)) (now (values .exit)) r ⌝ }
+    requires { ⌜ (half ≤ 64) × (half ≤ length (now assignment)) × (length (now table) / 8 < 4294967296) × (2 + 16 * half + length (now table) / 8 ≤ length (now values)) ⌝ }
+    ensures { λ r. ⌜ Ran (8 * half) (now (assignment .entry)) (now (table .entry)) (now (values .exit)) r ⌝ }
 {
+    fill_literals(half, assignment, values);
+    let first = 2 + 2 * (8 * half);
     let count = table.len() / 8;
     let mut k: usize = 0;
     while k < count {
-        let gate = evaluate_record(variables, assignment, table, k, values);
+        let own = first + k;
+        let gate = evaluate_record(table, k, &values[..own]);
         let number = gate.number;
         let place = gate.place;
         let value = gate.value;
         if number != 0 {
             return records::Verdict { number, place };
         }
-        values[k] = value as u8;
+        values[own] = value as u8;
         k += 1;
     }
     records::Verdict {
@@ -256,54 +197,36 @@ fn test_lengths(half: usize, most: usize, assignment: &[u8], table: &[u8]) -> us
     0
 }
 
-// A table of at most as many gates as there are values to keep.
+// A table of at most so many gates, where there is a value to keep for each reference.
 fn evaluate_halves(
     half: usize,
+    most: usize,
     assignment: &[u8],
     table: &[u8],
     root: usize,
     values: &mut [u8],
 ) -> Evaluated
-    requires { ⌜ half ≤ 64 ⌝ }
-    ensures { λ r. ⌜ Evaluates (evaluated half (length (now (values .entry))) (now (assignment .entry)) (now (table .entry)) root) r ⌝ }
+    requires { ⌜ (half ≤ 64) × (most < 4294967296) × (2 + 16 * half + most ≤ length (now values)) ⌝ }
+    ensures { λ r. ⌜ Evaluates (evaluated half most (now (assignment .entry)) (now (table .entry)) root) r ⌝ }
 {
-    let lengths = test_lengths(half, values.len(), assignment, table);
+    let lengths = test_lengths(half, most, assignment, table);
     if lengths != 0 {
-        return Evaluated {
-            number: lengths,
-            place: 0,
-            value: 0,
-        };
+        return refuse(lengths, 0);
     }
-    let variables = 8 * half;
-    let ran = evaluate_gates(variables, assignment, table, values);
+    let ran = evaluate_gates(half, assignment, table, values);
     let number = ran.number;
     let place = ran.place;
     if number != 0 {
-        return Evaluated {
-            number,
-            place,
-            value: 0,
-        };
+        return refuse(number, place);
     }
-    if !is_below(variables, root, table.len() / 8) {
-        return Evaluated {
-            number: 24,
-            place: 0,
-            value: 0,
-        };
+    if 2 + 2 * (8 * half) + table.len() / 8 <= root {
+        return refuse(24, 0);
     }
-    if reference_value(variables, assignment, values, root) {
-        return Evaluated {
-            number: 0,
-            place: 0,
-            value: 1,
-        };
-    }
+    let value = values[root] as usize;
     Evaluated {
         number: 0,
         place: 0,
-        value: 0,
+        value,
     }
 }
 
@@ -312,6 +235,6 @@ fn evaluate_halves(
 pub fn evaluate(assignment: &[u8], table: &[u8], root: usize) -> Evaluated
     ensures { λ r. ⌜ Evaluates (evaluated 32 3072 (now (assignment .entry)) (now (table .entry)) root) r ⌝ }
 {
-    let mut values = [0u8; 3072];
-    evaluate_halves(32, assignment, table, root, &mut values)
+    let mut values = [0u8; 3586];
+    evaluate_halves(32, 3072, assignment, table, root, &mut values)
 }

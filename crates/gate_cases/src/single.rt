@@ -31,37 +31,41 @@ fn writes() {
     write(18446744073709551615);
 }
 
-// Gate k behind two kept values, false and true: its numbers and k, then number, place and value.
+// Gate k behind four references, false, true, false and true, so that its own is 4: its numbers and k, then number, place and value.
 fn gate(kind: usize, left: usize, right: usize, k: usize) {
     print(b"gate", &[kind, left, right, k]);
-    print_evaluated(evaluate_gate(kind, left, right, k, &[0u8; 32], &[0u8, 255]));
+    print_evaluated(evaluate_gate(kind, left, right, k, &[0u8, 1, 254, 255]));
 }
 
-// In the sixth a value is kept for the input, which is the gate itself.
+// In the third both the kind and an input are refused, and in the fourth and fifth an input is the gate itself.
 fn refused() {
     gate(3, 0, 0, 7);
     gate(257, 1, 1, 0);
-    gate(3, 516, 1, 2);
-    gate(1, 516, 1, 2);
-    gate(2, 1, 516, 2);
-    gate(1, 515, 515, 1);
+    gate(0, 4, 1, 2);
+    gate(1, 4, 1, 2);
+    gate(2, 1, 4, 2);
+    gate(1, 3, 5, 1);
 }
 
-// The last reads a value that is not kept.
 fn valued() {
-    gate(1, 514, 515, 2);
-    gate(2, 514, 515, 2);
-    gate(1, 515, 515, 2);
-    gate(2, 516, 516, 3);
+    gate(1, 2, 3, 9);
+    gate(2, 2, 3, 9);
+    gate(1, 3, 1, 9);
+    gate(2, 2, 0, 9);
 }
 
-// In the last two 514 + k is the largest usize, and one more.
+// Inputs and k are as large as a usize gets.
 fn largest() {
     gate(3, 0, 0, 18446744073709551615);
     gate(2, 18446744073709551615, 1, 18446744073709551615);
-    gate(1, 18446744073709551615, 1, 18446744073709551615);
-    gate(1, 18446744073709551615, 1, 18446744073709551101);
-    gate(2, 18446744073709551615, 1, 18446744073709551102);
+    gate(1, 1, 18446744073709551615, 18446744073709551615);
+    gate(1, 1, 3, 18446744073709551615);
+}
+
+// Behind 0 references there is no input.
+fn alone() {
+    print(b"alone", &[0]);
+    print_evaluated(evaluate_gate(1, 0, 0, 0, &[0u8; 0]));
 }
 
 pub(crate) fn all() {
@@ -69,4 +73,5 @@ pub(crate) fn all() {
     refused();
     valued();
     largest();
+    alone();
 }

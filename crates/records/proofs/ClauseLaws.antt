@@ -4,7 +4,7 @@ use mathlib.Core.Path.{_≡_, refl, sym, ap, ap₂, subst, _∙_}
 use mathlib.Core.Bool.{Bool, true, false, not, _&&_, _||_, true≢false, and-false, and-true, cond}
 use mathlib.Core.List.{List, [], _∷_}
 use native.Mathlib.Nat.{lt-of-le-of-lt, lt-irrefl}
-use native.Mathlib.Decide.{ℕ-discrete, decLt}
+use native.Mathlib.Decide.{decLt}
 use native.Mathlib.Omega.{arith}
 use borrow.Author.Tests.{eq-eqb, ne-eqb, eqb-true, eqb-false, lt-ltb, le-ltb, ltb-true, ltb-false}
 use borrow.Author.Count.{below-more}
@@ -12,11 +12,11 @@ use lib.Dec.{eqb, ltb}
 use lib.ListN.{length, getD, set, take, length-set, List·getD-eq-default}
 use lib.Seq.{ext-getD, getD-take, getD-set-same, getD-set-other}
 use lib.Pow.{pow-lt}
-use lib.Bits.{bitAnd, bitOr, and-le-l, or-lt}
+use lib.Bits.{bitAnd, bitOr, bitXor, and-le-l, and-le-r, or-lt, or-add-and, or-zero-r, xor-lt, xor-self, xor-add-and}
 use Rattle.records.specs.Bits.{bitOf, numberOf}
 use Rattle.records.specs.Lists.{every}
-use Rattle.records.specs.Clause.{has, literal, holds, bytesOf, resolved, resolvent, resolvedInto, empty}
-use Rattle.records.specs.Inside.{allBut, joined}
+use Rattle.records.specs.Clause.{has, literal, holds, bytesOf, without, resolved, resolvent, resolvedInto, empty}
+use Rattle.records.specs.Inside.{allBut, maskWithout, positiveByte, negativeByte, joined}
 use Rattle.records.proofs.BitLaws.{bit-and, bit-or, bit-numberOf, numberOf-lt, numberOf-same, bits-ext, zero-bit, bit-not, bit-pow, test-bit}
 use Rattle.records.proofs.ListLaws.{length-tabulate, getD-tabulate}
 
@@ -97,13 +97,46 @@ all-but-mask k l =
     (bits-ext 8 (255 - 2 ^ k) (numberOf 8 (λ j. not (eqb j k))) (omega arith) (numberOf-lt 8 (λ j. not (eqb j k)))
     (λ j m. bit-not 8 (2 ^ k) j power m ∙ ap not (bit-pow k j) ∙ sym (bit-numberOf 8 (λ j. not (eqb j k)) j m)))
 
--- a byte without its bit k, by that mask
-pub masked-lt : (byte k : ℕ) → byte < 256 → bitAnd byte (allBut k) < 256
-masked-lt byte k small = lt-of-le-of-lt (and-le-l byte (allBut k)) small
+-- two tests that say the same
+same-test : (a b c d : ℕ) → (a ≡ b → c ≡ d) → (c ≡ d → a ≡ b) → eqb a b ≡ eqb c d
+same-test a b c d f g = go (eqb a b) refl
+  where
+    go : (t : Bool) → eqb a b ≡ t → eqb a b ≡ eqb c d
+    go true e = e ∙ sym (eq-eqb c d (f (eqb-true a b e)))
+    go false e = e ∙ sym (ne-eqb c d (λ q. eqb-false a b e (g q)))
 
-pub bit-masked : (byte k j : ℕ) → j < 8 → bitOf (bitAnd byte (allBut k)) j ≡ (bitOf byte j && not (eqb j k))
-unfolding allBut
-bit-masked byte k j l = bit-and byte (allBut k) j ∙ ap (λ (b : Bool). bitOf byte j && b) (bit-numberOf 8 (λ j. not (eqb j k)) j l)
+-- the mask of byte i, of which literal x is taken out where x's bit is in it
+pub bit-mask : (x i k : ℕ) → k < 8 → bitOf (maskWithout x i) k ≡ not (eqb (8 * i + k) x)
+unfolding maskWithout allBut numberOf
+bit-mask x i k l = go (eqb i (x / 8)) refl
+  where
+    go : (b : Bool) → eqb i (x / 8) ≡ b → bitOf (cond b (allBut (x % 8)) 255) k ≡ not (eqb (8 * i + k) x)
+    go true e =
+        let here : i ≡ x / 8 = eqb-true i (x / 8) e in
+        bit-numberOf 8 (λ j. not (eqb j (x % 8))) k l ∙ ap not (same-test k (x % 8) (8 * i + k) x (λ q. omega arith) (λ q. omega arith))
+    go false e = bit-numberOf 8 (λ j. true) k l ∙ sym (ap not (ne-eqb (8 * i + k) x (λ q. eqb-false i (x / 8) e (omega arith))))
+
+-- as the code computes it
+pub mask-computed : (at keep i : ℕ) → at < 128 → i < 128 → keep < 256 → bitOr keep ((bitXor i at + 127) / 128 * 255) ≡ cond (eqb i at) keep 255
+mask-computed at keep i a l k = go (eqb i at) refl
+  where
+    go : (b : Bool) → eqb i at ≡ b → bitOr keep ((bitXor i at + 127) / 128 * 255) ≡ cond b keep 255
+    go true e =
+        let same : bitXor i at ≡ 0 = ap (λ (x : ℕ). bitXor x at) (eqb-true i at e) ∙ xor-self at in
+        let none : (bitXor i at + 127) / 128 * 255 ≡ 0 = omega arith in
+        ap (bitOr keep) none ∙ or-zero-r keep
+    go false e =
+        let apart = eqb-false i at e in
+        let least : (bitXor i at ≡ 0 → ⊥) = λ z. apart (omega (arith, xor-add-and i at, and-le-l i at, and-le-r i at)) in
+        let all : (bitXor i at + 127) / 128 * 255 ≡ 255 = omega (arith, least, xor-lt 7 i at l a) in
+        ap (bitOr keep) all ∙ (omega (arith, or-lt 8 keep 255 k (omega arith), or-add-and keep 255, and-le-l keep 255))
+
+-- a record's byte i by that mask
+pub masked-lt : (byte mask : ℕ) → byte < 256 → bitAnd byte mask < 256
+masked-lt byte mask small = lt-of-le-of-lt (and-le-l byte mask) small
+
+pub bit-masked : (r : List ℕ) (x i k : ℕ) → k < 8 → bitOf (bitAnd (getD r i 0) (maskWithout x i)) k ≡ without r x (8 * i + k)
+bit-masked r x i k l = bit-and (getD r i 0) (maskWithout x i) k ∙ ap₂ _&&_ (sym (has-at r i k l)) (bit-mask x i k l)
 
 -- the empty clause: its bytes are zero, so it holds no literal; and a record that holds none is empty
 pub empty-is : (r : List ℕ) → ((i : ℕ) → i < length r → getD r i 0 ≡ 0) → empty r ≡ true
@@ -139,6 +172,20 @@ pub written : (f : ℕ → ℕ) (out : List ℕ) (i v : ℕ) → i < length out 
 written f out i v l all e =
     below-more (λ (k : ℕ). getD (set out i v) k 0 ≡ f k) i
     (λ k m. getD-set-other out i k v 0 (λ q. lt-irrefl k (omega arith)) ∙ all k m) (getD-set-same out i v 0 l ∙ e)
+
+-- one that writes f i at i and g i at h + i
+pub written-halves : (f g : ℕ → ℕ) (h : ℕ) (out : List ℕ) (i v w : ℕ) → i < h → h + i < length out
+    → ((k : ℕ) → k < i → (getD out k 0 ≡ f k) × (getD out (h + k) 0 ≡ g k)) → v ≡ f i → w ≡ g i
+    → (k : ℕ) → k < i + 1 → (getD (set (set out i v) (h + i) w) k 0 ≡ f k) × (getD (set (set out i v) (h + i) w) (h + k) 0 ≡ g k)
+written-halves f g h out i v w l room all e d =
+    below-more (λ (k : ℕ). (getD (set (set out i v) (h + i) w) k 0 ≡ f k) × (getD (set (set out i v) (h + i) w) (h + k) 0 ≡ g k)) i
+    (λ k m. (
+      getD-set-other (set out i v) (h + i) k w 0 (λ q. lt-irrefl k (omega arith)) ∙ getD-set-other out i k v 0 (λ q. lt-irrefl k (omega arith)) ∙ all k m .0,
+      getD-set-other (set out i v) (h + i) (h + k) w 0 (λ q. lt-irrefl k (omega arith)) ∙ getD-set-other out i (h + k) v 0 (λ q. lt-irrefl i (omega arith)) ∙ all k m .1,
+    )) (
+      getD-set-other (set out i v) (h + i) i w 0 (λ q. lt-irrefl i (omega arith)) ∙ getD-set-same out i v 0 (omega arith) ∙ e,
+      getD-set-same (set out i v) (h + i) w 0 (omega (arith, length-set out i v)) ∙ d,
+    )
 
 -- and leaves what it has not come to
 pub unwritten : (f : ℕ → ℕ) (out : List ℕ) (i v : ℕ) → ((k : ℕ) → i ≤ k → getD out k 0 ≡ f k) → (k : ℕ) → i + 1 ≤ k → getD (set out i v) k 0 ≡ f k
@@ -228,83 +275,52 @@ bytes-resolvent h left right p i = go (ltb i (2 * h)) refl
     go true q = rw (byte-bytesOf (2 * h) (resolved h left right p) i (ltb-true i (2 * h) q)) (numberOf-lt 8 (λ k. resolved h left right p (8 * i + k)))
     go false q = rw (List·getD-eq-default (bytesOf (2 * h) (resolved h left right p)) 0 {n = i} (omega (arith, ltb-false i (2 * h) q, length-bytesOf (2 * h) (resolved h left right p)))) (omega arith)
 
--- two tests that say the same
-same-test : (a b c d : ℕ) → (a ≡ b → c ≡ d) → (c ≡ d → a ≡ b) → eqb a b ≡ eqb c d
-same-test a b c d f g = go (eqb a b) refl
-  where
-    go : (t : Bool) → eqb a b ≡ t → eqb a b ≡ eqb c d
-    go true e = e ∙ sym (eq-eqb c d (f (eqb-true a b e)))
-    go false e = e ∙ sym (ne-eqb c d (λ q. eqb-false a b e (g q)))
-
--- the resolvent as the code makes it: all bytes joined, and the pivot's byte of each half written anew without the pivot's bit on its side
+-- the resolvent as the code makes it, byte by byte
 module _ (h : ℕ) (left right : List ℕ) (p : ℕ) (small : p < 8 * h) (l-bytes : Bytes left) (r-bytes : Bytes right) where
-  abbrev positive : ℕ
-  positive = bitOr (bitAnd (getD left (p / 8) 0) (allBut (p % 8))) (getD right (p / 8) 0)
-
-  abbrev negative : ℕ
-  negative = bitOr (getD left (h + p / 8) 0) (bitAnd (getD right (h + p / 8) 0) (allBut (p % 8)))
-
   -- byte i of the resolvent is x
   abbrev IsByte : ℕ → ℕ → Type 0
   IsByte i x = (x < 256) × ((k : ℕ) → k < 8 → bitOf x k ≡ resolved h left right p (8 * i + k))
 
-  plain-byte : (i : ℕ) → (i ≡ p / 8 → ⊥) → (i ≡ h + p / 8 → ⊥) → IsByte i (bitOr (getD left i 0) (getD right i 0))
-  plain-byte i np nn = (
-    or-lt 8 (getD left i 0) (getD right i 0) (l-bytes i) (r-bytes i),
+  -- a literal that is not the one taken out
+  kept-bit : (r : List ℕ) (x i k : ℕ) → k < 8 → (8 * i + k ≡ x → ⊥) → bitOf (getD r i 0) k ≡ without r x (8 * i + k)
+  kept-bit r x i k m other = sym (has-at r i k m) ∙ sym (ap (λ (b : Bool). has r (8 * i + k) && not b) (ne-eqb (8 * i + k) x other) ∙ and-true (has r (8 * i + k)))
+
+  positive-byte : (i : ℕ) → i < h → IsByte i (positiveByte left right p i)
+  unfolding positiveByte
+  positive-byte i l = (
+    or-lt 8 (bitAnd (getD left i 0) (maskWithout p i)) (getD right i 0) (masked-lt (getD left i 0) (maskWithout p i) (l-bytes i)) (r-bytes i),
     λ k m.
-        rw (bit-or (getD left i 0) (getD right i 0) k, has-at left i k m, has-at right i k m, ne-eqb (8 * i + k) p (λ q. np (omega arith)), ne-eqb (8 * i + k) (8 * h + p) (λ q. nn (omega arith)))
-        (sym (ap₂ _||_ (and-true (bitOf (getD left i 0) k)) (and-true (bitOf (getD right i 0) k)))),
+        bit-or (bitAnd (getD left i 0) (maskWithout p i)) (getD right i 0) k
+        ∙ ap₂ _||_ (bit-masked left p i k m) (kept-bit right (8 * h + p) i k m (λ q. lt-irrefl p (omega arith))),
   )
 
-  positive-byte : IsByte (p / 8) positive
-  positive-byte = (
-    or-lt 8 (bitAnd (getD left (p / 8) 0) (allBut (p % 8))) (getD right (p / 8) 0) (masked-lt (getD left (p / 8) 0) (p % 8) (l-bytes (p / 8))) (r-bytes (p / 8)),
+  shifted-mask : (i : ℕ) → maskWithout p i ≡ maskWithout (8 * h + p) (h + i)
+  unfolding maskWithout
+  shifted-mask i =
+      let byte : (8 * h + p) / 8 ≡ h + p / 8 = omega arith in
+      let bit : (8 * h + p) % 8 ≡ p % 8 = omega arith in
+      rw (byte, bit, same-test (h + i) (h + p / 8) i (p / 8) (λ q. omega arith) (λ q. omega arith)) refl
+
+  negative-byte : (i : ℕ) → IsByte (h + i) (negativeByte h left right p i)
+  unfolding negativeByte
+  negative-byte i = (
+    or-lt 8 (getD left (h + i) 0) (bitAnd (getD right (h + i) 0) (maskWithout p i)) (l-bytes (h + i)) (masked-lt (getD right (h + i) 0) (maskWithout p i) (r-bytes (h + i))),
     λ k m.
-        rw (
-          bit-or (bitAnd (getD left (p / 8) 0) (allBut (p % 8))) (getD right (p / 8) 0) k,
-          bit-masked (getD left (p / 8) 0) (p % 8) k m,
-          has-at left (p / 8) k m,
-          has-at right (p / 8) k m,
-          same-test (8 * (p / 8) + k) p k (p % 8) (λ q. omega arith) (λ q. omega arith),
-          ne-eqb (8 * (p / 8) + k) (8 * h + p) (λ q. lt-irrefl p (omega arith)),
-        )
-        (sym (ap (λ (b : Bool). bitOf (getD left (p / 8) 0) k && not (eqb k (p % 8)) || b) (and-true (bitOf (getD right (p / 8) 0) k)))),
+        bit-or (getD left (h + i) 0) (bitAnd (getD right (h + i) 0) (maskWithout p i)) k
+        ∙ ap₂ _||_ (kept-bit left p (h + i) k m (λ q. lt-irrefl p (omega arith)))
+        (ap (λ (mask : ℕ). bitOf (bitAnd (getD right (h + i) 0) mask) k) (shifted-mask i) ∙ bit-masked right (8 * h + p) (h + i) k m),
   )
 
-  negative-byte : IsByte (h + p / 8) negative
-  negative-byte = (
-    or-lt 8 (getD left (h + p / 8) 0) (bitAnd (getD right (h + p / 8) 0) (allBut (p % 8))) (l-bytes (h + p / 8)) (masked-lt (getD right (h + p / 8) 0) (p % 8) (r-bytes (h + p / 8))),
-    λ k m.
-        rw (
-          bit-or (getD left (h + p / 8) 0) (bitAnd (getD right (h + p / 8) 0) (allBut (p % 8))) k,
-          bit-masked (getD right (h + p / 8) 0) (p % 8) k m,
-          has-at left (h + p / 8) k m,
-          has-at right (h + p / 8) k m,
-          ne-eqb (8 * (h + p / 8) + k) p (λ q. lt-irrefl p (omega arith)),
-          same-test (8 * (h + p / 8) + k) (8 * h + p) k (p % 8) (λ q. omega arith) (λ q. omega arith),
-        )
-        (sym (ap (λ (b : Bool). b || bitOf (getD right (h + p / 8) 0) k && not (eqb k (p % 8))) (and-true (bitOf (getD left (h + p / 8) 0) k)))),
-  )
-
-  pub mended : (part : List ℕ) → length part ≡ 2 * h → ((k : ℕ) → k < 2 * h → getD part k 0 ≡ bitOr (getD left k 0) (getD right k 0))
-      → set (set part (p / 8) positive) (h + p / 8) negative ≡ resolvent h left right p
+  pub resolvent-is : (part : List ℕ) → length part ≡ 2 * h
+      → ((i : ℕ) → i < h → (getD part i 0 ≡ positiveByte left right p i) × (getD part (h + i) 0 ≡ negativeByte h left right p i)) → part ≡ resolvent h left right p
   unfolding resolvent
-  mended part size all =
-      bytesOf-is (2 * h) (resolved h left right p) (set (set part (p / 8) positive) (h + p / 8) negative) (simp (length-set, length-set) size)
-      (λ i l. byte i l .0) (λ i k l m. byte i l .1 k m)
+  resolvent-is part size all = bytesOf-is (2 * h) (resolved h left right p) part size (λ i l. byte i l (decLt i h) .0) (λ i k l m. byte i l (decLt i h) .1 k m)
     where
-      outer : h + p / 8 < length (set part (p / 8) positive)
-      outer = simp length-set (omega arith)
-
-      at : (i : ℕ) → i < 2 * h → Dec (i ≡ h + p / 8) → Dec (i ≡ p / 8) → IsByte i (getD (set (set part (p / 8) positive) (h + p / 8) negative) i 0)
-      at i l (yes e) d = rw (e, getD-set-same (set part (p / 8) positive) (h + p / 8) negative 0 outer) negative-byte
-      at i l (no n) (yes e) =
-          rw (getD-set-other (set part (p / 8) positive) (h + p / 8) i negative 0 (λ q. n q), e, getD-set-same part (p / 8) positive 0 (omega arith)) positive-byte
-      at i l (no n) (no m) =
-          rw (getD-set-other (set part (p / 8) positive) (h + p / 8) i negative 0 (λ q. n q), getD-set-other part (p / 8) i positive 0 (λ q. m q), all i l) (plain-byte i m n)
-
-      byte : (i : ℕ) → i < 2 * h → IsByte i (getD (set (set part (p / 8) positive) (h + p / 8) negative) i 0)
-      byte i l = at i l (ℕ-discrete i (h + p / 8)) (ℕ-discrete i (p / 8))
+      byte : (i : ℕ) → i < 2 * h → Dec (i < h) → IsByte i (getD part i 0)
+      byte i l (yes q) = rw (all i q .0) (positive-byte i q)
+      byte i l (no q) =
+          let e : h + (i - h) ≡ i = omega arith in
+          subst (λ (j : ℕ). IsByte j (getD part j 0)) e (rw (all (i - h) (omega arith) .1) (negative-byte (i - h)))
 
 -- the pivot's literal is taken out of its own side alone
 literal-test : (h : ℕ) (sign side : Bool) (v p : ℕ) → v < 8 * h → p < 8 * h → eqb (literal h sign v) (literal h side p) ≡ (cond side sign (not sign) && eqb v p)

@@ -15,6 +15,10 @@ unfolding tabulate
 length-tabulate zero f = refl
 length-tabulate (suc n) f = ap suc (length-tabulate n (λ i. f (suc i)))
 
+pub tabulate-none : {A : Type 0} (f : ℕ → A) → tabulate 0 f ≡ []
+unfolding tabulate
+tabulate-none f = refl
+
 pub getD-tabulate : {A : Type 0} (n : ℕ) (f : ℕ → A) (d : A) (i : ℕ) → i < n → getD (tabulate n f) i d ≡ f i
 unfolding tabulate
 getD-tabulate zero f d i h = absurd (omega arith)

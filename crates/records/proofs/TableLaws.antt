@@ -1,5 +1,5 @@
 -- The laws of tables: a record's bytes, a table with one record written anew, and what occurs in a table.
-use Prim.Native.Nat.{ℕ, _+_, _-_, _*_, _/_, _≤_, _<_}
+use Prim.Native.Nat.{ℕ, zero, suc, _+_, _-_, _*_, _/_, _≤_, _<_}
 use mathlib.Core.Path.{_≡_, refl, sym, ap, _∙_, subst}
 use mathlib.Core.Bool.{Bool, true, false, _||_, or-true}
 use mathlib.Core.List.{List, [], _++_}
@@ -9,6 +9,7 @@ use native.Mathlib.Numerals.{add-one}
 use native.Mathlib.Omega.{arith}
 use native.Mathlib.Decide.{decLt}
 use borrow.Author.Tests.{le-leb, lt-leb}
+use lib.Bits.{bitOr, and-le-l, and-le-r, or-add-and, or-zero-l}
 use lib.ListN.{length, getD, take, drop, take-append-drop, length-append, length-drop, List·getD-append, List·getD-eq-default}
 use lib.Seq.{getD-take, getD-drop, length-take-le, ext-getD, take-at, drop-at, drop-drop}
 use Rattle.records.specs.Lists.{tabulate, some, every}
@@ -74,6 +75,14 @@ short-record w t r h = go (decLt (length t) (w * r + w))
     go (no l) = absurd (omega (arith, length-recordAt w t r (omega arith)))
 
 -- a record is empty where its bytes are zero
+-- bytes joined are zero where each is
+pub or-zero : (a b : ℕ) → bitOr a b ≡ 0 → (a ≡ 0) × (b ≡ 0)
+or-zero a b e = (omega (arith, or-add-and a b, and-le-r a b), omega (arith, or-add-and a b, and-le-l a b))
+
+pub or-not-zero : (a b : ℕ) (P : Type 0) → ((a ≡ 0 → ⊥) → P) → ((b ≡ 0 → ⊥) → P) → (bitOr a b ≡ 0 → ⊥) → P
+or-not-zero zero b P f g n = g (λ e. n (or-zero-l b ∙ e))
+or-not-zero (suc a) b P f g n = f (λ e. absurd (omega arith))
+
 pub record-empty : (w : ℕ) (t : List ℕ) (r : ℕ) → w * r + w ≤ length t → ((i : ℕ) → i < w → getD t (w * r + i) 0 ≡ 0) → empty (recordAt w t r) ≡ true
 record-empty w t r h z =
     empty-is (recordAt w t r) (λ i l. byte-recordAt w t r i h (omega (arith, length-recordAt w t r h)) ∙ z i (omega (arith, length-recordAt w t r h)))

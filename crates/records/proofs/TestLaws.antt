@@ -1,5 +1,5 @@
 -- The laws of ordered tests: the first that fails answers, and where none is refused all passed.
-use Prim.Native.Nat.{ℕ, _+_, _*_, _%_, _≤_, _<_}
+use Prim.Native.Nat.{ℕ, _*_, _%_, _≤_, _<_}
 use mathlib.Core.Path.{_≡_, refl, ap}
 use mathlib.Core.Bool.{Bool, true, false, not, cond, true≢false, and-false}
 use mathlib.Core.List.{List, [], _∷_, _++_}

@@ -1,9 +1,9 @@
 -- What the private pieces ask and promise. No public contract speaks of these.
-use Prim.Native.Nat.{ℕ, _+_, _*_, _≤_, _<_}
+use Prim.Native.Nat.{ℕ, _+_, _*_, _/_, _%_, _≤_, _<_}
 use mathlib.Core.Path.{_≡_}
 use mathlib.Core.Bool.{Bool, true, false, not, cond}
 use mathlib.Core.List.{List}
-use lib.Bits.{bitOr}
+use lib.Bits.{bitAnd, bitOr}
 use lib.Dec.{eqb}
 use lib.ListN.{length, getD}
 use Rattle.records.specs.declared.steps.Step.{Step}
@@ -17,6 +17,17 @@ use Rattle.records.specs.Derivation.{inputs, clauseAt, stored}
 -- the byte that has every bit but k
 unfoldable pub allBut : ℕ → ℕ
 allBut k = numberOf 8 (λ j. not (eqb j k))
+
+-- the mask of byte i that takes literal x out
+unfoldable pub maskWithout : ℕ → ℕ → ℕ
+maskWithout x i = cond (eqb i (x / 8)) (allBut (x % 8)) 255
+
+-- byte i of either half of the resolvent, by the mask that takes the pivot out
+unfoldable pub positiveByte : List ℕ → List ℕ → ℕ → ℕ → ℕ
+positiveByte left right pivot i = bitOr (bitAnd (getD left i 0) (maskWithout pivot i)) (getD right i 0)
+
+unfoldable pub negativeByte : ℕ → List ℕ → List ℕ → ℕ → ℕ → ℕ
+negativeByte h left right pivot i = bitOr (getD left (h + i) 0) (bitAnd (getD right (h + i) 0) (maskWithout pivot i))
 
 -- the literals of two records together, byte by byte
 unfoldable pub joined : List ℕ → List ℕ → List ℕ

@@ -1,6 +1,8 @@
 // Clause records: the bit test, and the resolvent of two of them.
 ghost use mathlib.Core.Path.{_≡_};
 ghost use Prim.Native.Nat.{_*_, _^_, _<_, _≤_};
+ghost use mathlib.Core.Bool.{cond};
+ghost use lib.Dec.{eqb};
 ghost use lib.ListN.{length};
 ghost use Rattle.records.specs.Clause.{has, resolvent, resolvedInto};
 ghost use Rattle.records.specs.Inside.{allBut};
@@ -22,8 +24,8 @@ fn mask_of(k: usize) -> u8
     }
 }
 
-// Bit `literal` of a record: of a clause of 64 bytes v is the literal xv, and 256 + v is not xv. It tests a literal of a clause, a
-// variable's colour and an assignment alike; past the end there is none.
+// Bit `literal` of a record: of a clause of 64 bytes v is the literal xv, and 256 + v is not xv. It tests a literal of a clause and a
+// variable's colour alike; past the end there is none.
 pub fn has_literal(clause: &[u8], literal: usize) -> bool
     ensures { λ r. ⌜ r ≡ has (now (clause .entry)) literal ⌝ }
 {
@@ -44,24 +46,34 @@ fn all_but(k: usize) -> u8
     !(1u8 << bit)
 }
 
-// The resolvent of two records with half bytes for each sign, which left and right begin with, written to the part. All bytes are
-// joined first, without a branch; then the pivot's byte of each half is written anew, with the pivot's literal masked out of the
-// side that loses it.
+// The mask of byte i of a side that loses a bit of the byte `at`: `keep` for that byte, all bits for every other. It is computed, and in
+// numbers of one byte, so that the compiler makes the masks of sixteen bytes at once: of a test it would make wider numbers.
+fn mask_at(at: usize, keep: u8, i: usize) -> u8
+    requires { ⌜ (at < 128) × (i < 128) ⌝ }
+    ensures { λ r. ⌜ r ≡ cond (eqb i at) keep 255 ⌝ }
+{
+    let apart = (i as u8) ^ (at as u8);
+    let other = (apart + 127) / 128;
+    keep | (other * 255)
+}
+
+// The resolvent of two records with half bytes for each sign, which left and right begin with, written to the part: byte by byte, in both
+// halves, the pivot's literal is masked out of the side that loses it, and the sides are joined. Each byte is written once: one that is
+// mended after wide stores keeps the next step waiting for it.
 pub(crate) fn resolve_halves(half: usize, left: &[u8], right: &[u8], pivot: usize, part: &mut [u8])
     requires { ⌜ (half ≤ 64) × (pivot < 8 * half) × (2 * half ≤ length (now left)) × (2 * half ≤ length (now right)) × (length (now part) ≡ 2 * half) ⌝ }
     ensures { λ r. ⌜ now (part .exit) ≡ resolvent half (now (left .entry)) (now (right .entry)) pivot ⌝ }
 {
-    let size = 2 * half;
+    let at = pivot / 8;
+    let keep = all_but(pivot % 8);
     let mut i: usize = 0;
-    while i < size {
-        part[i] = left[i] | right[i];
+    while i < half {
+        let mask = mask_at(at, keep, i);
+        part[i] = (left[i] & mask) | right[i];
+        let j = half + i;
+        part[j] = left[j] | (right[j] & mask);
         i += 1;
     }
-    let positive = pivot / 8;
-    let negative = half + positive;
-    let keep = all_but(pivot % 8);
-    part[positive] = (left[positive] & keep) | right[positive];
-    part[negative] = left[negative] | (right[negative] & keep);
 }
 
 // The resolvent of left, which loses the pivot's positive literal, and right, which loses the negative one, written to a record

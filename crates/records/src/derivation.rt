@@ -21,7 +21,7 @@ ghost use Rattle.records.specs.Inside.{Sized, OrderTested, PivotTaken, S
 // A copy of clause k, one of those that are there, in the first bytes of the part.
 fn fetch(half: usize, a: &[u8], b: &[u8], work: &[u8], k: usize, part: &mut [u8; 128])
     requires { ⌜ (0 < half) × (half ≤ 64) × (k < inputs half (now a) (now b) + records (2 * half) (now work)) × (length (now part) ≡ 128) ⌝ }
-    ensures { λ r. ⌜ take (2 * half) (now (part .exit)) ≡ clauseAt half (now (a .entry)) (now (b .entry)) (now (work .entry)) k ⌝ }
+    ensures { λ r. ⌜ (take (2 * half) (now (part .exit)) ≡ clauseAt half (now (a .entry)) (now (b .entry)) (now (work .entry)) k) × (length (now (part .exit)) ≡ 128) ⌝ }
 {
     let size = 2 * half;
     let in_a = a.len() / size;
@@ -80,7 +80,8 @@ fn resolve_tested(
 }
 
 // Step i over the clauses with numbers left and right, both earlier: the number of its refusal, or 0 and its resolvent in its own record. The
-// antecedents are copied once; the tests read the copies, and are decided before a byte of the record is written.
+// antecedents are copied once, to the first bytes of first and second; the tests read the copies, and are decided before a byte of the
+// record is written.
 fn resolve_step(
     half: usize,
     a: &[u8],
@@ -90,22 +91,24 @@ fn resolve_step(
     pivot: usize,
     i: usize,
     work: &mut [u8],
+    first: &mut [u8; 128],
+    second: &mut [u8; 128],
 ) -> usize
     requires { ⌜ Sized half (now a) (now b) (now work) (i + 1) ⌝ }
     requires { ⌜ (left < inputs half (now a) (now b) + i) × (right < inputs half (now a) (now b) + i) ⌝ }
-    ensures { λ r. ⌜ StepResolved half (now (a .entry)) (now (b .entry)) left right pivot i (now (work .entry)) (now (work .exit)) r ⌝ }
+    requires { ⌜ (length (now first) ≡ 128) × (length (now second) ≡ 128) ⌝ }
+    ensures { λ r. ⌜ StepResolved half (now (a .entry)) (now (b .entry)) left right pivot i (now (work .entry)) (now (work .exit)) r × (length (now (first .exit)) ≡ 128) × (length (now (second .exit)) ≡ 128) ⌝ }
 {
-    let mut left_copy = [0u8; 128];
-    fetch(half, a, b, work, left, &mut left_copy);
-    let mut right_copy = [0u8; 128];
-    fetch(half, a, b, work, right, &mut right_copy);
+    fetch(half, a, b, work, left, first);
+    fetch(half, a, b, work, right, second);
     let size = 2 * half;
     let start = size * i;
     let end = start + size;
-    resolve_tested(half, &left_copy, &right_copy, pivot, &mut work[start..end])
+    resolve_tested(half, first, second, pivot, &mut work[start..end])
 }
 
-// Step i, whose own clause number is own: the number of its refusal, or 0 and its resolvent in its own record.
+// Step i, whose own clause number is own: the number of its refusal, or 0 and its resolvent in its own record. The antecedents are
+// copied to first and second.
 fn take_step(
     half: usize,
     a: &[u8],
@@ -114,10 +117,13 @@ fn take_step(
     step: Step,
     i: usize,
     work: &mut [u8],
+    first: &mut [u8; 128],
+    second: &mut [u8; 128],
 ) -> usize
     requires { ⌜ Sized half (now a) (now b) (now work) (i + 1) ⌝ }
     requires { ⌜ own ≡ inputs half (now a) (now b) + i ⌝ }
-    ensures { λ r. ⌜ StepTaken half (now (a .entry)) (now (b .entry)) step i (now (work .entry)) (now (work .exit)) r ⌝ }
+    requires { ⌜ (length (now first) ≡ 128) × (length (now second) ≡ 128) ⌝ }
+    ensures { λ r. ⌜ StepTaken half (now (a .entry)) (now (b .entry)) step i (now (work .entry)) (now (work .exit)) r × (length (now (first .exit)) ≡ 128) × (length (now (second .exit)) ≡ 128) ⌝ }
 {
     let spare = step.spare;
     let left = step.left;
@@ -127,10 +133,11 @@ fn take_step(
     if number != 0 {
         return number;
     }
-    resolve_step(half, a, b, left, right, pivot, i, work)
+    resolve_step(half, a, b, left, right, pivot, i, work, first, second)
 }
 
-// All steps in order up to the first that fails.
+// All steps in order up to the first that fails. The two arrays for the antecedents' copies serve every step, so that they are
+// cleared once.
 fn run_steps(half: usize, a: &[u8], b: &[u8], steps: &[u8], work: &mut [u8]) -> Verdict
     requires { ⌜ Sized half (now a) (now b) (now work) (stepCount (now steps)) ⌝ }
     ensures { λ r. ⌜ Derives (ran half (now (a .entry)) (now (b .entry)) (stepAt (now (steps .entry))) (stepCount (now (steps .entry))) (now (work .entry))) (now (work .exit)) r ⌝ }
@@ -138,10 +145,12 @@ fn run_steps(half: usize, a: &[u8], b: &[u8], steps: &[u8], work: &mut [u8]) -> 
     let size = 2 * half;
     let own = a.len() / size + b.len() / size;
     let n = steps.len() / 8;
+    let mut first = [0u8; 128];
+    let mut second = [0u8; 128];
     let mut i: usize = 0;
     while i < n {
         let step = read_step(steps, i);
-        let number = take_step(half, a, b, own + i, step, i, work);
+        let number = take_step(half, a, b, own + i, step, i, work, &mut first, &mut second);
         if number != 0 {
             return Verdict { number, place: i };
         }

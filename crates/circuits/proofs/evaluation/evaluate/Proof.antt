@@ -1,4 +1,4 @@
--- `circuits::evaluation::evaluate` meets its contract: the values are 3,072 bytes. Assumes nothing.
+-- `circuits::evaluation::evaluate` meets its contract: the values are 3,586 bytes, one for each of 514 references and 3,072 gates. Assumes nothing.
 use mathlib.Core.Path.{refl}
 use native.Mathlib.Omega.{arith}
 use Rattle.circuits.proofs.evaluation.evaluate.Statement.{statement}

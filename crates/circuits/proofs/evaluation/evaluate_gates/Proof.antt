@@ -1,31 +1,58 @@
--- `circuits::evaluation::evaluate_gates` meets its contract: the values so far are those of the first k gates. Assumes nothing.
-use Prim.Native.Nat.{_≤_, _-_}
-use mathlib.Core.Path.{_≡_, refl}
+-- `circuits::evaluation::evaluate_gates` meets its contract: the values so far are those behind the first k gates. Assumes nothing.
+use Prim.Native.Nat.{_*_, _≤_, _-_}
+use mathlib.Core.Path.{_≡_, refl, sym}
 use mathlib.Core.List.{[]}
 use native.Mathlib.Omega.{arith}
 use borrow.Author.Needs.{needs}
-use lib.ListN.{length, length-set}
+use lib.ListN.{length, take, length-set}
+use lib.Seq.{getD-take, length-take-le}
 use Rattle.records.specs.Clause.{has}
 use Rattle.records.proofs.TestLaws.{Passed}
+use Rattle.circuits.specs.Reference.{gateReference}
 use Rattle.circuits.specs.Gate.{gatesOf}
 use Rattle.circuits.specs.Value.{values as valuesOf}
-use Rattle.circuits.specs.Evaluate.{gatesTests, valuesIn}
-use Rattle.circuits.proofs.EvaluateInsideLaws.{gates-none, kept-none, turn-small, turn-stops, turn-passes, turn-keeps, all-turned}
+use Rattle.circuits.specs.Evaluate.{gatesTests}
+use Rattle.circuits.specs.EvaluateInside.{Known}
+use Rattle.circuits.proofs.EvaluateInsideLaws.{gates-none, known-none, turn-small, turn-stops, turn-passes, turn-keeps, all-turned}
 use Rattle.circuits.proofs.evaluation.evaluate_gates.Statement.{statement}
 use Rattle.circuits.proofs.evaluation.evaluate_gates.Tie as tie
 
 abbrev Inv-loop : tie.InvT-loop
-Inv-loop variables assignment table values₀ count k₀ values k =
+Inv-loop half assignment table values₀ first count k₀ values k =
     (k ≤ count)
     × (length values ≡ length values₀)
-    × Passed (gatesTests variables table k)
-    × (valuesIn k values ≡ valuesOf variables (has assignment) [] (gatesOf table k))
+    × Passed (gatesTests (8 * half) table k)
+    × Known (8 * half) (has assignment) (valuesOf (8 * half) (has assignment) [] (gatesOf table k)) k values
 
 abbrev μ-loop : tie.MeasureT-loop
-μ-loop variables assignment table values₀ count k₀ values k = count - k
+μ-loop half assignment table values₀ first count k₀ values k = count - k
+
+fill-literals-requires : tie.Need-fill-literals-requires Inv-loop μ-loop
+fill-literals-requires c κs = search needs
+
+mul-first : tie.Need-mul-first Inv-loop μ-loop
+mul-first c = omega arith
+
+mul-first-2 : tie.Need-mul-first-2 Inv-loop μ-loop
+mul-first-2 c = omega arith
+
+add-first : tie.Need-add-first Inv-loop μ-loop
+add-first c = omega arith
 
 loop-holds : tie.Need-loop-holds Inv-loop μ-loop
-loop-holds c = (omega arith, refl, gates-none _ _, kept-none _ _ _ _)
+loop-holds c = (omega arith, refl, gates-none _ _, known-none _ _ _ _ (c .before .before .fill-literals .ensures))
+
+add-own : tie.Need-add-own Inv-loop μ-loop
+add-own c = omega arith
+
+slice-reshare-prefix-evaluate-record : tie.Need-slice-reshare-prefix-evaluate-record Inv-loop μ-loop
+slice-reshare-prefix-evaluate-record c = omega arith
+
+slice-aggregate-evaluate-record : tie.Need-slice-aggregate-evaluate-record Inv-loop μ-loop
+slice-aggregate-evaluate-record c =
+    let args = c .before .before .before .before .before .before .before .before .before .before .args in
+    let loop = c .before .before .loop in
+    sym (length-take-le (gateReference (8 * args .half) (loop .k)) (loop .values) (omega arith))
 
 evaluate-record-requires : tie.Need-evaluate-record-requires Inv-loop μ-loop
 evaluate-record-requires c κs = omega arith
@@ -34,10 +61,20 @@ same-length : tie.Need-same-length Inv-loop μ-loop
 same-length c = search needs
 
 returns : tie.Need-returns Inv-loop μ-loop
-returns c = turn-stops _ _ _ _ _ ((c .before .evaluate-record) .result) ((c .before .evaluate-record) .ensures) _ ((c .before .before .before .loop-test) .taken) ((c .before .before .before .before .loop) .inv .2) ((c .if1) .taken)
+returns c =
+    let args = c .before .before .before .before .before .before .before .before .before .before .before .before .args in
+    let loop = c .before .before .before .before .loop in
+    let gate = c .before .evaluate-record in
+    let own = gateReference (8 * args .half) (loop .k) in
+    turn-stops (8 * args .half) (args .assignment .now) (args .table .now) (loop .values) (take own (loop .values)) (loop .k) (gate .result) (loop .inv .3) (length-take-le own (loop .values) (omega arith)) (λ i l. getD-take own (loop .values) i 0 l) (gate .ensures) _ (c .before .before .before .loop-test .taken) (loop .inv .2) (c .if1 .taken)
 
 cast-values : tie.Need-cast-values Inv-loop μ-loop
-cast-values c = omega (arith, turn-small _ _ _ _ _ ((c .before .evaluate-record) .result) ((c .before .evaluate-record) .ensures))
+cast-values c =
+    let args = c .before .before .before .before .before .before .before .before .before .before .before .before .args in
+    let loop = c .before .before .before .before .loop in
+    let gate = c .before .evaluate-record in
+    let own = gateReference (8 * args .half) (loop .k) in
+    omega (arith, turn-small (8 * args .half) (args .assignment .now) (args .table .now) (loop .values) (take own (loop .values)) (loop .k) (gate .result) (loop .inv .3) (length-take-le own (loop .values) (omega arith)) (λ i l. getD-take own (loop .values) i 0 l) (gate .ensures))
 
 slice-write-values : tie.Need-slice-write-values Inv-loop μ-loop
 slice-write-values c = omega arith
@@ -50,21 +87,21 @@ loop-less c = omega arith
 
 loop-again : tie.Need-loop-again Inv-loop μ-loop
 loop-again c =
-    let args = c .before .before .before .before .before .before .before .before .args in
+    let args = c .before .before .before .before .before .before .before .before .before .before .before .before .args in
     let loop = c .before .before .before .before .loop in
-    let evaluate-record = c .before .evaluate-record in
-    let turned = evaluate-record .ensures in (
+    let gate = c .before .evaluate-record in
+    let own = gateReference (8 * args .half) (loop .k) in (
       omega arith,
       simp length-set (loop .inv .1),
-      turn-passes (args .variables) (args .assignment .now) (args .table .now) (loop .values) (loop .k) (evaluate-record .result) turned (loop .inv .2) (c .if1 .left),
-      turn-keeps (args .variables) (args .assignment .now) (args .table .now) (loop .values) (loop .k) (evaluate-record .result) turned (c .if1 .left) (omega arith) (loop .inv .3),
+      turn-passes (8 * args .half) (args .assignment .now) (args .table .now) (loop .values) (take own (loop .values)) (loop .k) (gate .result) (loop .inv .3) (length-take-le own (loop .values) (omega arith)) (λ i l. getD-take own (loop .values) i 0 l) (gate .ensures) (loop .inv .2) (c .if1 .left),
+      turn-keeps (8 * args .half) (args .assignment .now) (args .table .now) (loop .values) (take own (loop .values)) (loop .k) (gate .result) (loop .inv .3) (length-take-le own (loop .values) (omega arith)) (λ i l. getD-take own (loop .values) i 0 l) (gate .ensures) (c .if1 .left) (omega arith),
     )
 
 same-length-2 : tie.Need-same-length-2 Inv-loop μ-loop
 same-length-2 c = search needs
 
 returns-2 : tie.Need-returns-2 Inv-loop μ-loop
-returns-2 c = all-turned _ _ _ _ ((c .before .loop) .k) (omega arith) ((c .before .loop) .inv .2) ((c .before .loop) .inv .3)
+returns-2 c = let loop = c .before .loop in all-turned _ _ _ _ (loop .k) (omega arith) (loop .inv .2) (loop .inv .3)
 
 pub evaluate-gates-spec : {M : Type 1} → statement M
 evaluate-gates-spec =
@@ -72,7 +109,14 @@ evaluate-gates-spec =
     (tie.spec
     Inv-loop
     μ-loop
+    fill-literals-requires
+    mul-first
+    mul-first-2
+    add-first
     loop-holds
+    add-own
+    slice-reshare-prefix-evaluate-record
+    slice-aggregate-evaluate-record
     evaluate-record-requires
     same-length
     returns

@@ -22,7 +22,7 @@ returns : tie.Need-returns
 unfolding clauseAt
 returns c =
     let if1 = c .before .before .if1 in
-    rw (lt-ltb _ _ (if1 .taken)) (c .copy-record .ensures)
+    (rw (lt-ltb _ _ (if1 .taken)) (c .copy-record .ensures .0), c .copy-record .ensures .1)
 
 div-in-b : tie.Need-div-in-b
 div-in-b c = search needs
@@ -35,7 +35,7 @@ unfolding clauseAt
 returns-2 c =
     let if1 = c .before .before .before .if1 in
     let args = c .before .before .before .before .before .before .before .args in
-    rw (le-ltb _ _ (if1 .left), lt-ltb (args .k) (inputs (args .half) (args .a .now) (args .b .now)) (omega arith)) (c .copy-record2 .ensures)
+    (rw (le-ltb _ _ (if1 .left), lt-ltb (args .k) (inputs (args .half) (args .a .now) (args .b .now)) (omega arith)) (c .copy-record2 .ensures .0), c .copy-record2 .ensures .1)
 
 copy-record-requires-3 : tie.Need-copy-record-requires-3
 copy-record-requires-3 c κs = search needs
@@ -47,7 +47,7 @@ returns-3 c =
     let if1 = c .before .before .before .if1 in
     let n = inputs (args .half) (args .a .now) (args .b .now) in
     let e : args .k - length (args .a .now) / (2 * args .half) - length (args .b .now) / (2 * args .half) ≡ args .k - n = omega arith in
-    rw (le-ltb _ _ (if1 .left), le-ltb (args .k) n (omega arith), ← e) (c .copy-record3 .ensures)
+    (rw (le-ltb _ _ (if1 .left), le-ltb (args .k) n (omega arith), ← e) (c .copy-record3 .ensures .0), c .copy-record3 .ensures .1)
 
 pub fetch-spec : {M : Type 1} → statement M
 fetch-spec =

@@ -15,13 +15,13 @@ fetch-requires : tie.Need-fetch-requires
 fetch-requires c κs =
     let args = c .before .before .before .before .before .args in
     let pre = c .before .before .before .before .before .pre in
-    (omega arith, omega arith, omega (arith, records-room (2 * args .half) (args .work .now) (args .i + 1) (omega arith) (pre .0 .room)), refl)
+    (omega arith, omega arith, omega (arith, records-room (2 * args .half) (args .work .now) (args .i + 1) (omega arith) (pre .0 .room)), pre .1 .1 .0)
 
 fetch-requires-2 : tie.Need-fetch-requires-2
 fetch-requires-2 c κs =
     let args = c .before .before .before .before .before .before .before .before .args in
     let pre = c .before .before .before .before .before .before .before .before .pre in
-    (omega arith, omega arith, omega (arith, records-room (2 * args .half) (args .work .now) (args .i + 1) (omega arith) (pre .0 .room)), refl)
+    (omega arith, omega arith, omega (arith, records-room (2 * args .half) (args .work .now) (args .i + 1) (omega arith) (pre .0 .room)), pre .1 .1 .1)
 
 mul-size : tie.Need-mul-size
 mul-size c = search needs
@@ -57,16 +57,19 @@ returns c =
     let half = args .half in
     let work = args .work .now in
     let i = args .i in
-    let here : 2 * half * i + 2 * half ≤ length work = omega (arith, next-record (2 * half) i, pre .0 .room) in
-    record {
-      number = rw (← fetch .ensures, ← fetch2 .ensures) (resolve-tested .ensures .number ∙ sym (pivotNumber-first half _ _ _));
-      good = λ z.
-          rw (← fetch .ensures, ← fetch2 .ensures)
-          (put-part (2 * half) work i _ (2 * half * i) refl ∙ ap (put (2 * half) work i) (resolve-tested .ensures .good z ∙ sym (resolvent-first half _ _ _)));
-      bad = λ n.
-          put-part (2 * half) work i _ (2 * half * i) refl
-          ∙ ap (put (2 * half) work i) (resolve-tested .ensures .bad n ∙ recordAt-part (2 * half) work i here) ∙ put-same (2 * half) work i here;
-    }
+    let here : 2 * half * i + 2 * half ≤ length work = omega (arith, next-record (2 * half) i, pre .0 .room) in (
+      record {
+        number = rw (← fetch .ensures .0, ← fetch2 .ensures .0) (resolve-tested .ensures .number ∙ sym (pivotNumber-first half _ _ _));
+        good = λ z.
+            rw (← fetch .ensures .0, ← fetch2 .ensures .0)
+            (put-part (2 * half) work i _ (2 * half * i) refl ∙ ap (put (2 * half) work i) (resolve-tested .ensures .good z ∙ sym (resolvent-first half _ _ _)));
+        bad = λ n.
+            put-part (2 * half) work i _ (2 * half * i) refl
+            ∙ ap (put (2 * half) work i) (resolve-tested .ensures .bad n ∙ recordAt-part (2 * half) work i here) ∙ put-same (2 * half) work i here;
+      },
+      fetch .ensures .1,
+      fetch2 .ensures .1,
+    )
 
 pub resolve-step-spec : {M : Type 1} → statement M
 resolve-step-spec =

@@ -16,14 +16,16 @@ use Rattle.records.proofs.derivation.run_steps.Statement.{statement}
 use Rattle.records.proofs.derivation.run_steps.Tie as tie
 
 abbrev Inv-loop : tie.InvT-loop
-Inv-loop half a b steps work₀ size own n i₀ work i =
+Inv-loop half a b steps work₀ size own n first₀ second₀ i₀ work first second i =
     (i ≤ n)
     × (length work ≡ length work₀)
+    × (length first ≡ 128)
+    × (length second ≡ 128)
     × (work ≡ workAfter half a b (stepAt steps) work₀ i)
     × ((k : ℕ) → k < i → refused (verdictAt half a b (stepAt steps) work₀ k) ≡ false)
 
 abbrev μ-loop : tie.MeasureT-loop
-μ-loop half a b steps work₀ size own n i₀ work i = n - i
+μ-loop half a b steps work₀ size own n first₀ second₀ i₀ work first second i = n - i
 
 mul-size : tie.Need-mul-size Inv-loop μ-loop
 mul-size c = omega arith
@@ -39,7 +41,7 @@ add-own c = omega arith
 
 loop-holds : tie.Need-loop-holds Inv-loop μ-loop
 unfolding workAfter
-loop-holds c = (omega arith, refl, refl, λ k l. absurd (omega arith))
+loop-holds c = (omega arith, refl, refl, refl, refl, λ k l. absurd (omega arith))
 
 read-step-requires : tie.Need-read-step-requires Inv-loop μ-loop
 read-step-requires c κs = tt
@@ -49,9 +51,9 @@ add-take-step c = omega arith
 
 take-step-requires : tie.Need-take-step-requires Inv-loop μ-loop
 take-step-requires c κs =
-    let args = c .before .before .before .before .before .before .before .before .args in
-    let loop = c .before .before .before .loop in
-    let pre = c .before .before .before .before .before .before .before .before .pre in
+    let args = c .before .before .before .before .before .before .before .before .before .before .args in
+    let loop = c .before .before .before .before .before .loop in
+    let pre = c .before .before .before .before .before .before .before .before .before .before .pre in
     let inside = within (2 * args .half) (loop .i) (stepCount (args .steps .now)) (omega arith) in (
       record {
         half-least = omega arith;
@@ -59,7 +61,7 @@ take-step-requires c κs =
         few = omega arith;
         room = omega (arith, next-record (2 * args .half) (loop .i), pre .room);
       },
-      refl,
+      (refl, (omega arith, omega arith)),
     )
 
 same-length : tie.Need-same-length Inv-loop μ-loop
@@ -68,12 +70,12 @@ same-length c = search needs
 returns : tie.Need-returns Inv-loop μ-loop
 returns c =
     let take-step = c .before .before .before .take-step in
-    let args = c .before .before .before .before .before .before .before .before .before .before .before .before .args in
-    let loop = c .before .before .before .before .before .before .before .loop in
-    let read-step = c .before .before .before .before .before .read-step in
-    rw (take-step .ensures .bad (c .if1 .taken))
-    (bad-run (args .half) (args .a .now) (args .b .now) (stepAt (args .steps .now)) (args .work .now) (loop .work) (loop .i) (take-step .result) (loop .inv .2)
-    (rw (← read-is (args .steps .now) (loop .i) (read-step .result) (read-step .ensures)) (take-step .ensures .number)) _ (omega arith) (loop .inv .3) (c .if1 .taken))
+    let args = c .before .before .before .before .before .before .before .before .before .before .before .before .before .before .args in
+    let loop = c .before .before .before .before .before .before .before .before .before .loop in
+    let read-step = c .before .before .before .before .before .before .before .read-step in
+    rw (take-step .ensures .0 .bad (c .if1 .taken))
+    (bad-run (args .half) (args .a .now) (args .b .now) (stepAt (args .steps .now)) (args .work .now) (loop .work) (loop .i) (take-step .result) (loop .inv .4)
+    (rw (← read-is (args .steps .now) (loop .i) (read-step .result) (read-step .ensures)) (take-step .ensures .0 .number)) _ (omega arith) (loop .inv .5) (c .if1 .taken))
 
 add-i : tie.Need-add-i Inv-loop μ-loop
 add-i c = omega arith
@@ -83,17 +85,19 @@ loop-less c = omega arith
 
 loop-again : tie.Need-loop-again Inv-loop μ-loop
 loop-again c =
-    let args = c .before .before .before .before .before .before .before .before .before .before .before .before .args in
-    let loop = c .before .before .before .before .before .before .before .loop in
-    let read-step = c .before .before .before .before .before .read-step in
+    let args = c .before .before .before .before .before .before .before .before .before .before .before .before .before .before .args in
+    let loop = c .before .before .before .before .before .before .before .before .before .loop in
+    let read-step = c .before .before .before .before .before .before .before .read-step in
     let take-step = c .before .before .before .take-step in
     let good = c .if1 .left in
     let read = read-is (args .steps .now) (loop .i) (read-step .result) (read-step .ensures) in (
       omega arith,
       omega arith,
-      take-step .ensures .good good ∙ ap₂ (λ s w. stored (args .half) (args .a .now) (args .b .now) s (loop .i) w) read (loop .inv .2)
+      take-step .ensures .1,
+      take-step .ensures .2,
+      take-step .ensures .0 .good good ∙ ap₂ (λ s w. stored (args .half) (args .a .now) (args .b .now) s (loop .i) w) read (loop .inv .4)
           ∙ after-one (args .half) (args .a .now) (args .b .now) (stepAt (args .steps .now)) (args .work .now) (loop .i),
-      below-more _ _ (loop .inv .3) (good-turn (args .half) (args .a .now) (args .b .now) (stepAt (args .steps .now)) (args .work .now) (loop .work) (loop .i) (take-step .result) (loop .inv .2) (rw (← read) (take-step .ensures .number)) good),
+      below-more _ _ (loop .inv .5) (good-turn (args .half) (args .a .now) (args .b .now) (stepAt (args .steps .now)) (args .work .now) (loop .work) (loop .i) (take-step .result) (loop .inv .4) (rw (← read) (take-step .ensures .0 .number)) good),
     )
 
 same-length-2 : tie.Need-same-length-2 Inv-loop μ-loop
@@ -104,8 +108,8 @@ returns-2 c =
     let loop = c .before .loop in
     let args = c .before .before .before .before .before .before .args in
     let all : loop .i ≡ stepCount (args .steps .now) = omega arith in
-    good-run (args .half) (args .a .now) (args .b .now) (stepAt (args .steps .now)) (args .work .now) (loop .work) _ (loop .inv .2 ∙ ap (workAfter (args .half) (args .a .now) (args .b .now) (stepAt (args .steps .now)) (args .work .now)) all)
-    (λ j l. loop .inv .3 j (omega arith))
+    good-run (args .half) (args .a .now) (args .b .now) (stepAt (args .steps .now)) (args .work .now) (loop .work) _ (loop .inv .4 ∙ ap (workAfter (args .half) (args .a .now) (args .b .now) (stepAt (args .steps .now)) (args .work .now)) all)
+    (λ j l. loop .inv .5 j (omega arith))
 
 pub run-steps-spec : {M : Type 1} → statement M
 run-steps-spec =

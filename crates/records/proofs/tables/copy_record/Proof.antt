@@ -53,9 +53,11 @@ returns c =
     let pre = c .before .before .pre in
     let loop = c .before .loop in
     let size = record-size _ (args .table .now) _ (pre .0) (pre .2) in
-    let part = length-take-le (args .size) (loop .part) (omega arith) in
-    ext-getD 0 _ _ (part ∙ sym size)
-    (λ i l. getD-take (args .size) (loop .part) i 0 (omega arith) ∙ loop .inv .3 i (omega arith) ∙ sym (byte-recordAt _ _ _ i (loop .inv .2) (omega arith)))
+    let part = length-take-le (args .size) (loop .part) (omega arith) in (
+      ext-getD 0 _ _ (part ∙ sym size)
+          (λ i l. getD-take (args .size) (loop .part) i 0 (omega arith) ∙ loop .inv .3 i (omega arith) ∙ sym (byte-recordAt _ _ _ i (loop .inv .2) (omega arith))),
+      loop .inv .1,
+    )
 
 pub copy-record-spec : {M : Type 1} → statement M
 copy-record-spec =
