@@ -43,6 +43,7 @@ formTests own k g =
 abbrev pub recordTests : ℕ → List ℕ → ℕ → List Test
 recordTests own table k = test (spareAt table k) 22 k ∷ formTests own k (gateAt table k)
 
+-- gate k's own reference is 514 + k, here over N variables
 abbrev pub gateTests : ℕ → List ℕ → ℕ → List Test
 gateTests N table k = recordTests (gateReference N k) table k
 
