@@ -1,5 +1,17 @@
 /* privetcomb.h: the C boundary of the proved library: check a refutation and build its circuit, evaluate a circuit, find a record.
  *
+ * Tables are records without a header; numbers of two bytes are little endian. There are 256 variables, x0 to x255.
+ *
+ * - Clause, 64 bytes: 0-31 the positive literals, 32-63 the negative ones; in each half variable v is bit v mod 8 of byte
+ *   v div 8. 64 zero bytes are the empty clause.
+ * - Step, 8 bytes: 0-1 the left antecedent, 2-3 the right antecedent, 4 the pivot variable, 5-7 zero. Its result is left
+ *   without the positive pivot together with right without the negative one.
+ * - Gate, 8 bytes: 0 is 1 for AND, 2 for OR; 1 zero; 2-3 the left input, 4-5 the right input; 6-7 zero.
+ * - Assignment, 32 bytes: the same bit order; bit 1 means true.
+ *
+ * Antecedents are clause numbers: A's clauses are numbered from 0, then B's, then the result of each step. Inputs of gates
+ * are references: 0 is false, 1 is true, 2 + 2v is xv, 3 + 2v is not xv, and 514 + k is gate k, counted from 0.
+ *
  * The caller's duties, for every function here:
  *
  * - Each pointer is not null, also where its length is 0. As many bytes as its length says stand there, each set to some
@@ -8,9 +20,9 @@
  * - Nothing else writes any of the tables during the call, and nothing else reads `work` or `gates` during it.
  *
  * In return, for every function here: it returns on every content and every length of the tables; it keeps no pointer,
- * allocates nothing, has no state of its own, and calls at once from several threads don't disturb each other where the
- * duties are kept; and the tables passed as pointers to const are not written. Its result and the bytes it leaves depend on
- * the arguments alone.
+ * allocates nothing, has no state of its own, and calls at the same time from several threads don't disturb each other
+ * where the duties are kept; and the tables passed as pointers to const are not written. Its result and the bytes it leaves
+ * depend on the arguments and the tables' bytes alone.
  */
 #ifndef PRIVETCOMB_H
 #define PRIVETCOMB_H

@@ -5,7 +5,7 @@
 
 #include "privetcomb.h"
 
-enum { CLAUSE = 64, HALF = 32, STEP = 8, GATE = 8, STEPS = 3 };
+enum { CLAUSE = 64, HALF = 32, STEP = 8, GATE = 8, ASSIGNMENT = 32, STEPS = 3 };
 
 /* Puts the literal of variable v into a clause record, by sign. */
 static void add_literal(uint8_t *record, bool positive, unsigned v)
@@ -66,7 +66,7 @@ static bool as_document_01_says(const struct privetcomb_answer *answer, const ui
 /* The circuit's value is that of x1: evaluates it where x1 is as given and every other variable is not. */
 static bool has_value_of_x1(const struct privetcomb_answer *answer, const uint8_t *gates, bool x1)
 {
-    uint8_t assignment[HALF];
+    uint8_t assignment[ASSIGNMENT];
     memset(assignment, x1 ? 0 : 255, sizeof assignment);
     assignment[0] ^= 1u << 1;
     struct privetcomb_evaluated evaluated =

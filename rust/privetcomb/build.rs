@@ -20,7 +20,8 @@ fn main() {
             let folder = archive.parent().expect("a file stands in a folder");
             println!("cargo::rustc-link-search=native={}", folder.display());
             println!("cargo::rustc-link-lib=static=privetcomb");
-            println!("cargo::rustc-env=PRIVETCOMB_ARCHIVE={}", archive.display());
+            // For the build scripts of the crates that depend on this one.
+            println!("cargo::metadata=archive={}", archive.display());
         }
         Err(error) => println!(
             "cargo::error=the proved library is missing: {}: {error}; make it with `rt staticlib privetcomb`, or name its folder in {FOLDER}",

@@ -125,7 +125,7 @@ pub struct Pages {
 pub fn clause_pages() -> Pages {
     let mut random = Random::new(1);
     let mut clauses = vec![Clause::EMPTY.record()];
-    // Three literals a clause; the first of all is on average a quarter into the record.
+    // Three literals a clause, so that none of these is the root.
     clauses.resize_with(1_024, || {
         let [v, w, u] = [(); 3].map(|()| random.below(256));
         Clause::of(&[v, w], &[u]).record()

@@ -186,7 +186,7 @@ fn by_page() {
     // The two pages of steps differ by two pages of gates.
     let written = three_gates.with(&one_gate, |three, one| (three - one) / 2.0);
     println!("\n## A page of 4,096 bytes\n");
-    println!("Each is the difference of two calls that differ by whole pages.\n");
+    println!("Each is the difference of two calls that differ by whole pages. All steps of a page resolve the same two input clauses: about the least a step costs; steps all over the tables are in the table by clauses.\n");
     println!("| a page of | {HEADS} |");
     println!("| --- | {RULES} |");
     for (name, cost) in [

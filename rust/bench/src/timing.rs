@@ -35,10 +35,13 @@ fn calls_a_sample(call: &mut Call) -> u32 {
 pub fn medians(calls: &mut [&mut Call]) -> Vec<Both> {
     let repeats: Vec<u32> = calls.iter_mut().map(|call| calls_a_sample(call)).collect();
     let mut samples = vec![[const { Vec::new() }; 2]; calls.len()];
-    for _ in 0..SAMPLES {
+    for turn in 0..SAMPLES {
+        // Each side goes first in every other turn, so that what the first leaves behind falls on
+        // both alike.
+        let first = turn % 2;
         for ((call, samples), &repeats) in calls.iter_mut().zip(&mut samples).zip(&repeats) {
-            for (samples, side) in samples.iter_mut().zip(Side::ALL) {
-                samples.push(sample(call, side, repeats));
+            for side in [first, 1 - first] {
+                samples[side].push(sample(call, Side::ALL[side], repeats));
             }
         }
     }

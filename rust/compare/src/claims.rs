@@ -4,7 +4,7 @@ use std::collections::HashSet;
 use std::fs;
 use std::path::Path;
 
-use crate::example::in_repository;
+use crate::repository::in_repository;
 use crate::tally::Tally;
 
 /// The folders whose files have the names.

@@ -1,21 +1,17 @@
-//! The C side: the example compiled and run, and the header's numbers beside the wrapper's.
+//! The C side: the example compiled and run, and the header's names and numbers beside the wrapper's.
 
 use std::fs;
-use std::path::{Path, PathBuf};
 use std::process::Command;
 
 use independent::listed;
 use privetcomb::Refusal;
 
 use crate::folder::Folder;
+use crate::repository::in_repository;
 use crate::tally::Tally;
 
-/// A path from the repository's root.
-pub fn in_repository(path: &str) -> PathBuf {
-    Path::new(env!("CARGO_MANIFEST_DIR"))
-        .join("../..")
-        .join(path)
-}
+/// The archive that the wrapper links.
+const ARCHIVE: &str = env!("PRIVETCOMB_ARCHIVE");
 
 pub fn run(tally: &mut Tally) {
     match printed_by_example() {
@@ -28,16 +24,27 @@ pub fn run(tally: &mut Tally) {
     }
 
     let header = fs::read_to_string(in_repository("include/privetcomb.h")).unwrap_or_default();
-    let named: Vec<usize> = header
-        .lines()
-        .filter_map(|line| line.trim().strip_prefix("PRIVETCOMB_")?.split_once(" = "))
-        .filter_map(|(_, rest)| rest.split([',', ' ']).next()?.parse().ok())
-        .collect();
-    let numbers: Vec<usize> = [0]
+    let refusals = Refusal::ALL.map(|refusal| (format!("{refusal:?}"), refusal.number()));
+    let wrappers: Vec<(String, usize)> = [("Accepted".to_string(), 0)]
         .into_iter()
-        .chain(Refusal::ALL.map(Refusal::number))
+        .chain(refusals)
+        .map(|(name, number)| (name.to_lowercase(), number))
         .collect();
-    tally.expect("the header names the wrapper's numbers", named == numbers);
+    tally.expect(
+        "the header has the wrapper's names and numbers",
+        named(&header) == wrappers,
+    );
+}
+
+/// The header's names and numbers; the names without underscores and in lower case, since C and Rust
+/// write them differently.
+fn named(header: &str) -> Vec<(String, usize)> {
+    let read = |line: &str| {
+        let (name, rest) = line.trim().strip_prefix("PRIVETCOMB_")?.split_once(" = ")?;
+        let number = rest.split([',', ' ']).next()?.parse().ok()?;
+        Some((name.replace('_', "").to_lowercase(), number))
+    };
+    header.lines().filter_map(read).collect()
 }
 
 /// Compiles the example against the archive and runs it; what it prints where both succeed.
@@ -49,7 +56,7 @@ fn printed_by_example() -> Result<String, String> {
         .args(["-std=c11", "-Wall", "-Wextra", "-Werror", "-I"])
         .arg(in_repository("include"))
         .arg(in_repository("examples/c/check.c"))
-        .arg(privetcomb::ARCHIVE)
+        .arg(ARCHIVE)
         .arg("-o")
         .arg(&program);
     succeed(&mut compile)?;

@@ -34,11 +34,27 @@ fn checks(tally: &mut Tally, random: &mut Random) {
     }
     let cases = listed::cases();
     for (count, fault) in counts.into_iter().zip(Fault::ALL) {
-        let on_listed = cases
+        let on_listed: Vec<&str> = cases
             .iter()
             .filter(|case| caught(fault, &case.tables, case.answer, &case.after()))
-            .count();
-        tally_fault(tally, &format!("{fault:?}"), count, on_listed, cases.len());
+            .map(|case| case.name)
+            .collect();
+        let name = format!("{fault:?}");
+        tally_fault(tally, &name, count, on_listed.len(), cases.len());
+        if let Some(case) = named_case(fault) {
+            let name = format!("fault {name} caught on {case}, the case document 01 names for it");
+            tally.expect(name, on_listed.contains(&case));
+        }
+    }
+}
+
+/// The case that document 01 names for a fault.
+fn named_case(fault: Fault) -> Option<&'static str> {
+    match fault {
+        Fault::BothSigns => Some("P9"),
+        Fault::ColourByOrigin => Some("P8"),
+        Fault::PairedWithRight => Some("P5"),
+        _ => None,
     }
 }
 

@@ -11,8 +11,9 @@ pub struct Folder(PathBuf);
 impl Folder {
     pub fn new(name: &str) -> Result<Folder> {
         let path = env::temp_dir().join(format!("privetcomb-{name}-{}", process::id()));
+        fs::create_dir(&path)?;
+        // Only now, since it removes the folder in the end and must not remove another's.
         let folder = Folder(path);
-        fs::create_dir(folder.path())?;
         set_mode(folder.path(), 0o755)?;
         Ok(folder)
     }

@@ -1,5 +1,7 @@
 //! The cases document 01 lists, with the edges of the evaluator and of handing back a record.
 
+use std::hint::black_box;
+
 use independent::listed;
 use privetcomb::raw::{self, Part};
 
@@ -22,14 +24,18 @@ pub fn run(tally: &mut Tally) {
         tally.expect(format!("evaluate: {}", case.name), met);
     }
     for listed::Part { length, r, start } in listed::parts() {
-        let table = vec![7; length];
+        let table: Vec<u8> = (0..length).map(|byte| byte as u8).collect();
         let met = record_agrees(&table, r, start);
         tally.expect(format!("record: {r} of {length} bytes"), met);
     }
 }
 
-/// Whether both forms of handing back record r say that it starts there, or that there is none.
+/// Whether both forms of handing back record r say that it starts there, or that there is none, and
+/// leave the table as it was.
 pub fn record_agrees(table: &[u8], r: usize, start: Option<usize>) -> bool {
+    let before = table.to_vec();
+    // The compiler may take a lent table to be as it was; this makes it look.
+    let unwritten = || black_box(table) == before;
     let part = start.map_or(
         Part {
             start: 0,
@@ -37,11 +43,12 @@ pub fn record_agrees(table: &[u8], r: usize, start: Option<usize>) -> bool {
         },
         |start| Part { start, length: 64 },
     );
+    let met = raw::record(table, r) == part && unwritten();
     let wrapped_met = match (privetcomb::record(table, r), start) {
         // The caller's own bytes, not a copy of them.
         (Some(record), Some(start)) => std::ptr::eq(&record[..], &table[start..start + 64]),
         (None, None) => true,
         _ => false,
     };
-    raw::record(table, r) == part && wrapped_met
+    met && wrapped_met && unwritten()
 }

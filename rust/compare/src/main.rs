@@ -1,7 +1,7 @@
 //! Compares the proved library with the independent version: the listed cases, random tables, the laws, the tests themselves, and the names of
 //! the claims.
 //!
-//! `compare [--seed N] [--count N] [--without-print]`; the count is that of the random tables, and of the random evaluations.
+//! `compare [--seed N] [--count N]`; the count is that of the random tables, of the random evaluations and of the random records.
 
 #![forbid(unsafe_code)]
 
@@ -14,6 +14,7 @@ mod library;
 mod listed_cases;
 mod printing;
 mod random_tables;
+mod repository;
 mod tally;
 
 use std::env;
@@ -26,7 +27,6 @@ use tally::Tally;
 struct Options {
     seed: u64,
     count: usize,
-    with_print: bool,
 }
 
 impl Options {
@@ -34,7 +34,6 @@ impl Options {
         let mut options = Options {
             seed: 1,
             count: 100_000,
-            with_print: true,
         };
         while let Some(argument) = arguments.next() {
             let mut number = || {
@@ -44,7 +43,6 @@ impl Options {
             match argument.as_str() {
                 "--seed" => options.seed = number()?,
                 "--count" => options.count = number()? as usize,
-                "--without-print" => options.with_print = false,
                 _ => return Err(format!("{argument} is no argument")),
             }
         }
@@ -56,7 +54,7 @@ fn main() -> ExitCode {
     let options = match Options::read(env::args().skip(1)) {
         Ok(options) => options,
         Err(why) => {
-            eprintln!("{why}; usage: compare [--seed N] [--count N] [--without-print]");
+            eprintln!("{why}; usage: compare [--seed N] [--count N]");
             return ExitCode::from(2);
         }
     };
@@ -69,10 +67,6 @@ fn main() -> ExitCode {
     faults::run(&mut tally, &mut random);
     example::run(&mut tally);
     claims::run(&mut tally);
-    if options.with_print {
-        printing::run(&mut tally, &mut random);
-    } else {
-        println!("left out: the printing program");
-    }
+    printing::run(&mut tally, &mut random);
     tally.close()
 }

@@ -13,8 +13,8 @@ use std::{array, env};
 use independent::tables::{tables, Random};
 use independent::{listed, print};
 
-use crate::example::in_repository;
 use crate::folder::{set_mode, Folder};
+use crate::repository::in_repository;
 use crate::tally::Tally;
 
 /// The files read, in their order.
@@ -91,10 +91,10 @@ impl Program {
         }
         let output = command.output()?;
         fs::remove_dir_all(here)?;
-        if output.status.code().is_none() {
-            // Lines printed before it was stopped are not the program's answer.
+        if !output.status.success() {
+            // Lines of a program that fails or is stopped are not its answer.
             return Err(std::io::Error::other(format!(
-                "it ended by {}",
+                "it ended with {}",
                 output.status
             )));
         }

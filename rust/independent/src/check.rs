@@ -33,7 +33,7 @@ impl Answer {
 }
 
 /// The clauses in number order (A, B, results) and the steps taken so far.
-pub(crate) struct Proof {
+pub(crate) struct Refutation {
     pub a: usize,
     pub b: usize,
     pub clauses: Vec<Clause>,
@@ -74,19 +74,19 @@ pub(crate) trait Rules {
     }
 
     /// All s steps are checked, also those after the root.
-    fn goes_on(&self, _proof: &Proof) -> bool {
+    fn goes_on(&self, _refutation: &Refutation) -> bool {
         true
     }
 
     /// The first clause in number order that has no literal, an input clause included.
-    fn root(&self, proof: &Proof) -> Option<usize> {
-        proof.clauses.iter().position(Clause::is_empty)
+    fn root(&self, refutation: &Refutation) -> Option<usize> {
+        refutation.clauses.iter().position(Clause::is_empty)
     }
 
     /// By the whole of tables A and B, clauses no step uses too.
-    fn colour(&self, proof: &Proof, step: &Step) -> Colour {
-        let (in_a, rest) = proof.clauses.split_at(proof.a);
-        let in_b = &rest[..proof.b];
+    fn colour(&self, refutation: &Refutation, step: &Step) -> Colour {
+        let (in_a, rest) = refutation.clauses.split_at(refutation.a);
+        let in_b = &rest[..refutation.b];
         Colour::of(
             in_a.iter().any(|clause| clause.names(step.pivot)),
             in_b.iter().any(|clause| clause.names(step.pivot)),
@@ -118,15 +118,15 @@ impl Circuit {
     }
 }
 
-fn circuit(rules: &impl Rules, proof: &Proof) -> Circuit {
+fn circuit(rules: &impl Rules, refutation: &Refutation) -> Circuit {
     let mut circuit = Circuit {
         gates: vec![],
-        references: [vec![0; proof.a], vec![1; proof.b]].concat(),
+        references: [vec![0; refutation.a], vec![1; refutation.b]].concat(),
     };
-    for step in &proof.steps {
+    for step in &refutation.steps {
         let left = circuit.references[step.left];
         let right = circuit.references[step.right];
-        let reference = match rules.colour(proof, step) {
+        let reference = match rules.colour(refutation, step) {
             Colour::AOnly => circuit.add(Kind::Or, left, right),
             Colour::BOnly => circuit.add(Kind::And, left, right),
             Colour::Common => {
@@ -170,26 +170,26 @@ pub(crate) fn check_by(
     }
 
     let inputs = a.chunks(64).chain(b.chunks(64));
-    let mut proof = Proof {
+    let mut refutation = Refutation {
         a: a.len() / 64,
         b: b.len() / 64,
         clauses: inputs.map(Clause::read).collect(),
         steps: vec![],
     };
     for (i, record) in steps.chunks(8).enumerate() {
-        if !rules.goes_on(&proof) {
+        if !rules.goes_on(&refutation) {
             break;
         }
         let step = Step::read(record);
-        let own = proof.a + proof.b + i;
+        let own = refutation.a + refutation.b + i;
         if step.spare != [0; 3] {
             return Answer::refusal(7, i);
         }
         if step.left >= own || step.right >= own {
             return Answer::refusal(8, i);
         }
-        let left = &proof.clauses[step.left];
-        let right = &proof.clauses[step.right];
+        let left = &refutation.clauses[step.left];
+        let right = &refutation.clauses[step.right];
         if !left.positive[step.pivot] {
             return Answer::refusal(9, i);
         }
@@ -198,14 +198,14 @@ pub(crate) fn check_by(
         }
         let resolvent = rules.resolvent(left, right, step.pivot);
         work[64 * i..64 * (i + 1)].copy_from_slice(&resolvent.record());
-        proof.clauses.push(resolvent);
-        proof.steps.push(step);
+        refutation.clauses.push(resolvent);
+        refutation.steps.push(step);
     }
 
-    let Some(root) = rules.root(&proof) else {
+    let Some(root) = rules.root(&refutation) else {
         return Answer::refusal(11, 0);
     };
-    let circuit = circuit(rules, &proof);
+    let circuit = circuit(rules, &refutation);
     for (k, gate) in circuit.gates.iter().enumerate() {
         gates[8 * k..8 * (k + 1)].copy_from_slice(&gate.record());
     }

@@ -1,10 +1,10 @@
-//! The tests of the independent version: the listed cases, the laws, the faults and the tuned twin.
+//! The tests of the independent version: the listed cases, the bytes left, the laws, what random tables reach, and the tuned twin.
 
 use std::collections::BTreeMap;
 
 use crate::records::{occurring, Clause, Step};
 use crate::tables::{evaluation, small, tables, Random, Tables};
-use crate::wrong::{self, Fault, Misreading};
+use crate::wrong::{self, Fault};
 use crate::{check, evaluate, laws, listed, print, record, tuned, Answer};
 
 #[test]
@@ -115,57 +115,7 @@ fn run_wrong(fault: Fault, tables: &Tables) -> (Answer, Tables) {
     tables.run(|a, b, steps, work, gates| wrong::check(fault, a, b, steps, work, gates))
 }
 
-#[test]
-fn every_fault_is_caught() {
-    let mut random = Random::new(3);
-    let mut counts = [0; Fault::ALL.len()];
-    for _ in 0..2_000 {
-        let tables = tables(&mut random);
-        let right = tables.run(check);
-        for (count, fault) in counts.iter_mut().zip(Fault::ALL) {
-            *count += usize::from(run_wrong(fault, &tables) != right);
-        }
-    }
-    for (count, fault) in counts.into_iter().zip(Fault::ALL) {
-        let mut on_listed = vec![];
-        for case in listed::cases() {
-            if run_wrong(fault, &case.tables) != (case.answer, case.after()) {
-                on_listed.push(case.name);
-            }
-        }
-        println!("{fault:?}: {count} of 2000, and {on_listed:?}");
-        assert!(count > 0 && !on_listed.is_empty(), "{fault:?}");
-        // The case document 01 names for it.
-        let named = match fault {
-            Fault::BothSigns => "P9",
-            Fault::ColourByOrigin => "P8",
-            Fault::PairedWithRight => "P5",
-            _ => continue,
-        };
-        assert!(on_listed.contains(&named), "{fault:?} on {named}");
-    }
-}
-
-#[test]
-fn every_misreading_is_caught() {
-    let mut random = Random::new(8);
-    let mut counts = [0; Misreading::ALL.len()];
-    for _ in 0..5_000 {
-        let given = evaluation(&mut random);
-        let right = given.run(evaluate);
-        for (count, fault) in counts.iter_mut().zip(Misreading::ALL) {
-            let wrong = given
-                .run(|assignment, table, root| wrong::evaluate(fault, assignment, table, root));
-            *count += usize::from(wrong != right);
-        }
-    }
-    for (count, fault) in counts.into_iter().zip(Misreading::ALL) {
-        println!("{fault:?}: {count} of 5000");
-        assert!(count > 0, "{fault:?}");
-    }
-}
-
-/// Counts how often each number is answered, and asks for each of these at least 50 times.
+/// Prints how often each number is answered, and asks for each of these at least 50 times.
 fn reached(name: &str, counts: &[usize], numbers: std::ops::RangeInclusive<usize>) {
     for (number, count) in counts.iter().enumerate().filter(|(_, &count)| count > 0) {
         println!("{name} {number}: {count}");
@@ -221,7 +171,10 @@ fn every_edge_is_reached() {
                 "an input clause as root",
                 accepted && answer.place < inputs.len(),
             ),
-            ("steps after the root", accepted && answer.place + 1 < all),
+            (
+                "steps after the root",
+                accepted && answer.place >= inputs.len() && answer.place + 1 < all,
+            ),
             ("only single gates", accepted && s > 0 && answer.count == s),
             (
                 "only triple gates",

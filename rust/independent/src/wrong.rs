@@ -1,6 +1,6 @@
 //! Wrong versions: of the check, the builds document 01 says look right and the promises kept in part; of the evaluator, misreadings.
 
-use crate::check::{check_by, Answer, Colour, Document, Proof, Rules};
+use crate::check::{check_by, Answer, Colour, Document, Refutation, Rules};
 use crate::records::{Clause, Gate, Kind, Step};
 use crate::{evaluate as right_evaluate, Evaluated};
 
@@ -63,33 +63,37 @@ impl Rules for Fault {
         resolvent
     }
 
-    fn goes_on(&self, proof: &Proof) -> bool {
-        *self != Fault::SkipsAfterRoot || Document.root(proof).is_none()
+    fn goes_on(&self, refutation: &Refutation) -> bool {
+        *self != Fault::SkipsAfterRoot || Document.root(refutation).is_none()
     }
 
-    fn root(&self, proof: &Proof) -> Option<usize> {
+    fn root(&self, refutation: &Refutation) -> Option<usize> {
         match self {
             Fault::LastClauseIsRoot => {
-                let last = proof.clauses.len().checked_sub(1)?;
-                proof.clauses[last].is_empty().then_some(last)
+                let last = refutation.clauses.len().checked_sub(1)?;
+                refutation.clauses[last].is_empty().then_some(last)
             }
-            Fault::LastEmptyClauseIsRoot => proof.clauses.iter().rposition(Clause::is_empty),
+            Fault::LastEmptyClauseIsRoot => refutation.clauses.iter().rposition(Clause::is_empty),
             Fault::RefusesEverything => None,
-            _ => Document.root(proof),
+            _ => Document.root(refutation),
         }
     }
 
-    fn colour(&self, proof: &Proof, step: &Step) -> Colour {
+    fn colour(&self, refutation: &Refutation, step: &Step) -> Colour {
         if *self != Fault::ColourByOrigin {
-            return Document.colour(proof, step);
+            return Document.colour(refutation, step);
         }
         // Whether a clause stems from A, and whether it stems from B.
-        let mut origins = [vec![(true, false); proof.a], vec![(false, true); proof.b]].concat();
+        let mut origins = [
+            vec![(true, false); refutation.a],
+            vec![(false, true); refutation.b],
+        ]
+        .concat();
         let joined = |origins: &[(bool, bool)], step: &Step| {
             let (left, right) = (origins[step.left], origins[step.right]);
             (left.0 || right.0, left.1 || right.1)
         };
-        for earlier in &proof.steps {
+        for earlier in &refutation.steps {
             origins.push(joined(&origins, earlier));
         }
         let (from_a, from_b) = joined(&origins, step);

@@ -9,9 +9,6 @@ mod refusal;
 
 pub use refusal::{Refusal, Refused};
 
-/// The archive of the proved library that is linked in; what stands beside this crate links the same.
-pub const ARCHIVE: &str = env!("PRIVETCOMB_ARCHIVE");
-
 /// An accepted refutation.
 #[derive(Clone, Copy, Debug, PartialEq, Eq)]
 pub struct Accepted {
@@ -62,6 +59,8 @@ pub fn check(
 }
 
 /// The value of a gate table at a root reference under an assignment.
+///
+/// Refusals 20 to 24; no byte is written.
 pub fn evaluate(assignment: &[u8], table: &[u8], root: usize) -> Result<bool, Refused> {
     let raw::Evaluated {
         number,

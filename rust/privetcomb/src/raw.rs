@@ -55,9 +55,10 @@ extern "C" {
 
 /// Checks the refutation, leaves its resolvents in the work table and its circuit in the gate table.
 pub fn check(a: &[u8], b: &[u8], steps: &[u8], work: &mut [u8], gates: &mut [u8]) -> Answer {
-    // SAFETY: each pointer is that of a slice, so it is not null even where the slice is empty, and
-    // its length goes with it. The work and gate tables are borrowed mutably: they overlap no other
-    // table, and nothing else reads or writes them during the call. The library keeps no pointer.
+    // SAFETY: declared as in include/privetcomb.h. Each pointer is that of a slice: not null even
+    // where it is empty, with its length (never above isize::MAX), all bytes set. A, B and steps are
+    // borrowed, so nothing writes them during the call; work and gates are borrowed mutably, so they
+    // overlap no other table and nothing else reads or writes them. The library keeps no pointer.
     unsafe {
         privetcomb_check(
             a.as_ptr(),
@@ -76,8 +77,10 @@ pub fn check(a: &[u8], b: &[u8], steps: &[u8], work: &mut [u8], gates: &mut [u8]
 
 /// Evaluates the gate table at the root reference under the assignment; writes nothing.
 pub fn evaluate(assignment: &[u8], table: &[u8], root: usize) -> Evaluated {
-    // SAFETY: both pointers are those of slices and go with their lengths; the library only reads
-    // them, during the call.
+    // SAFETY: declared as in include/privetcomb.h. Both pointers are those of slices: not null even
+    // where they are empty, with their lengths (never above isize::MAX), all bytes set. Both are
+    // borrowed, so nothing writes them during the call; the library only reads them and keeps no
+    // pointer.
     unsafe {
         privetcomb_evaluate(
             assignment.as_ptr(),
@@ -91,6 +94,9 @@ pub fn evaluate(assignment: &[u8], table: &[u8], root: usize) -> Evaluated {
 
 /// Where record r stands in the table.
 pub fn record(table: &[u8], r: usize) -> Part {
-    // SAFETY: the pointer is that of a slice and goes with its length; any r may be asked for.
+    // SAFETY: declared as in include/privetcomb.h. The pointer is that of a slice: not null even
+    // where it is empty, with its length (never above isize::MAX), all bytes set. It is borrowed, so
+    // nothing writes it during the call; the library only reads it and keeps no pointer. Any r may
+    // be asked for.
     unsafe { privetcomb_record(table.as_ptr(), table.len(), r) }
 }

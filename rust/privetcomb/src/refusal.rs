@@ -57,7 +57,9 @@ impl Display for Refusal {
             Refusal::LengthOfA => "table A's length is not a multiple of 64",
             Refusal::LengthOfB => "table B's length is not a multiple of 64",
             Refusal::LengthOfSteps => "the step table's length is not a multiple of 8",
-            Refusal::TooManyClauses => "the clauses of A, of B and the steps are more than 1,024",
+            Refusal::TooManyClauses => {
+                "A's clauses, B's clauses and the steps are more than 1,024 together"
+            }
             Refusal::WorkTooShort => "the work table is shorter than 64 bytes a step",
             Refusal::GatesTooShort => "the gate table is shorter than 24 bytes a step",
             Refusal::SpareByteOfStep => "byte 5, 6 or 7 of the step is not zero",
@@ -119,3 +121,31 @@ impl Display for Refused {
 }
 
 impl Error for Refused {}
+
+#[cfg(test)]
+mod tests {
+    use super::{Refusal, Refused};
+
+    #[test]
+    fn texts() {
+        for (reason, place, text) in [
+            (
+                Refusal::LengthOfA,
+                0,
+                "refused (1): table A's length is not a multiple of 64",
+            ),
+            (
+                Refusal::LeftLacksPivot,
+                4,
+                "refused (9): the left antecedent lacks the positive pivot (step 4)",
+            ),
+            (
+                Refusal::InputNotEarlier,
+                7,
+                "refused (23): an input of the gate is not below the gate's own reference (gate 7)",
+            ),
+        ] {
+            assert_eq!(Refused { reason, place }.to_string(), text);
+        }
+    }
+}
