@@ -3,7 +3,9 @@ use Prim.Native.Nat.{ℕ, zero, suc, _+_, _-_, _*_, _/_, _%_, _^_, _≤_, _<_}
 use mathlib.Core.Path.{_≡_, refl, sym, ap, ap₂, subst, _∙_}
 use mathlib.Core.Bool.{Bool, true, false, not, _&&_, _||_, cond, true≢false, and-false}
 use mathlib.Core.List.{List, [], _∷_, _++_}
+use native.Mathlib.Decide.{decLt}
 use native.Mathlib.Omega.{arith}
+use borrow.Author.Count.{below-more}
 use borrow.Author.Tests.{eq-eqb, ne-eqb, eqb-true, eqb-false, lt-ltb, le-ltb, ltb-true, le-leb, lt-leb, leb-true}
 use lib.Bits.{bitAnd, bitOr}
 use lib.Dec.{eqb, leb, ltb}
@@ -27,7 +29,7 @@ use Rattle.circuits.specs.Reference.{gateReference}
 use Rattle.circuits.specs.Gate.{Gate, gateAt, spareAt, gatesOf}
 use Rattle.circuits.specs.Value.{referenceValue, kindValue, gateValue, values, value}
 use Rattle.circuits.specs.Evaluate.{Evaluates, answered, lengthTests, formTests, recordTests, gateTests, gatesTests, referenceTests, keptAt, keptValue, gateEvaluated, evaluationTests, evaluated}
-use Rattle.circuits.specs.EvaluateInside.{lengthNumber, GateRead, Paired, Filled, Known, recordEvaluated, Ran}
+use Rattle.circuits.specs.EvaluateInside.{lengthNumber, GateRead, rowValue, Rows, RowFilled, Filled, Known, recordEvaluated, Ran}
 use Rattle.circuits.proofs.ValueLaws.{value-positive, value-negative, value-gate, value-earlier, circuit-length}
 use Rattle.circuits.proofs.EvaluateLaws.{values-next, tests-split, lengths-refuse, root-decides}
 
@@ -218,55 +220,94 @@ filled-start N assignment bytes room =
     filled-none N assignment (set (set bytes 0 0) 1 1) (getD-set-other (set bytes 0 0) 1 0 1 0 (omega arith) ∙ getD-set-same bytes 0 0 0 (omega arith))
     (getD-set-same (set bytes 0 0) 1 1 0 (omega (arith, length-set bytes 0 0)))
 
-filled-next : (N : ℕ) (assignment bytes : List ℕ) (v p n : ℕ) → v < N → 2 + 2 * N ≤ length bytes → p ≡ digit (has assignment v) → n ≡ digit (not (has assignment v))
-    → Filled N assignment v bytes → Filled N assignment (v + 1) (set (set bytes (2 + 2 * v) p) (3 + 2 * v) n)
-filled-next N assignment bytes v p n small room e f filled = record { byte = λ r l. go r l (eqb r (2 + 2 * v)) refl (eqb r (3 + 2 * v)) refl }
+-- a test of all numbers below n, one after the other
+abbrev pub holdsBelow : (ℕ → Bool) → ℕ → Bool
+holdsBelow p zero = true
+holdsBelow p (suc n) = holdsBelow p n && p n
+
+holds-at : (p : ℕ → Bool) (n : ℕ) → holdsBelow p n ≡ true → (k : ℕ) → k < n → p k ≡ true
+holds-at p zero e k l = absurd (omega arith)
+holds-at p (suc n) e k l =
+    let both = and-both (holdsBelow p n) (p n) e in
+    below-more (λ (j : ℕ). p j ≡ true) n (holds-at p n (both .0)) (both .1) k (omega arith)
+
+-- the rows, by their rule
+pub rows-are : (rows : List (List ℕ)) → holdsBelow (λ n. holdsBelow (λ i. eqb (getD (getD rows n []) i 0) (rowValue n i)) 8) 16 ≡ true → Rows rows
+rows-are rows e =
+    record {
+      value =
+          λ n i l m.
+          eqb-true (getD (getD rows n []) i 0) (rowValue n i)
+          (holds-at (λ i. eqb (getD (getD rows n []) i 0) (rowValue n i)) 8 (holds-at (λ n. holdsBelow (λ i. eqb (getD (getD rows n []) i 0) (rowValue n i)) 8) 16 e n l) i m);
+    }
+
+-- the values of four variables more, by the row that has their bits
+filled-row : (N : ℕ) (assignment bytes last : List ℕ) (v n : ℕ) → v + 4 ≤ N → ((k : ℕ) → k < 4 → eqb (n / 2 ^ k % 2) 1 ≡ has assignment (v + k))
+    → RowFilled n (2 + 2 * v) bytes last → Filled N assignment v bytes → Filled N assignment (v + 4) last
+unfolding rowValue
+filled-row N assignment bytes last v n small bits row filled = record { byte = λ r l. go r l (decLt r (2 + 2 * v)) }
   where
-    go : (r : ℕ) → r < 2 + 2 * (v + 1) → (b : Bool) → eqb r (2 + 2 * v) ≡ b → (d : Bool) → eqb r (3 + 2 * v) ≡ d
-        → getD (set (set bytes (2 + 2 * v) p) (3 + 2 * v) n) r 0 ≡ digit (referenceValue N (has assignment) [] r)
-    go r l b g true h =
-        let at : r ≡ 3 + 2 * v = eqb-true r (3 + 2 * v) h in
-        rw at
-        (getD-set-same (set bytes (2 + 2 * v) p) (3 + 2 * v) n 0 (omega (arith, length-set bytes (2 + 2 * v) p)) ∙ f
-        ∙ ap digit (sym (value-negative N (has assignment) [] v small)))
-    go r l true g false h =
-        let at : r ≡ 2 + 2 * v = eqb-true r (2 + 2 * v) g in
-        rw at
-        (getD-set-other (set bytes (2 + 2 * v) p) (3 + 2 * v) (2 + 2 * v) n 0 (omega arith) ∙ getD-set-same bytes (2 + 2 * v) p 0 (omega arith) ∙ e
-        ∙ ap digit (sym (value-positive N (has assignment) [] v small)))
-    go r l false g false h =
-        let other = eqb-false r (2 + 2 * v) g in
-        let another = eqb-false r (3 + 2 * v) h in
-        getD-set-other (set bytes (2 + 2 * v) p) (3 + 2 * v) r n 0 (omega arith)
-        ∙ getD-set-other bytes (2 + 2 * v) r p 0 (omega arith)
-        ∙ filled .byte r (omega arith)
+    entry : (k odd : ℕ) → k < 4 → odd < 2
+        → getD last (2 + 2 * v + (2 * k + odd)) 0 ≡ digit (cond (eqb odd 0) (eqb (n / 2 ^ k % 2) 1) (not (eqb (n / 2 ^ k % 2) 1)))
+    entry k odd l o =
+        let place : (2 * k + odd) / 2 ≡ k = omega arith in
+        let parity : (2 * k + odd) % 2 ≡ odd = omega arith in
+        row .filled (2 * k + odd) (omega arith) ∙ rw (place, parity) refl
 
--- both values of a variable, by its bit
-pub pair-true : (bit : ℕ) → bit ≡ 1 → Paired bit 1
-pair-true bit e = record { first = ap digit (sym (eq-eqb bit 1 e)); second = ap (λ (b : Bool). digit (not b)) (sym (eq-eqb bit 1 e)) }
+    literals : (k odd : ℕ) → k < 4 → odd < 2 → getD last (2 + 2 * v + (2 * k + odd)) 0 ≡ digit (referenceValue N (has assignment) [] (2 + 2 * v + (2 * k + odd)))
+    literals k zero l o =
+        let at : 2 + 2 * (v + k) ≡ 2 + 2 * v + (2 * k + zero) = omega arith in
+        entry k zero l o ∙ ap digit (bits k l ∙ sym (value-positive N (has assignment) [] (v + k) (omega arith)) ∙ ap (referenceValue N (has assignment) []) at)
+    literals k (suc zero) l o =
+        let at : 3 + 2 * (v + k) ≡ 2 + 2 * v + (2 * k + suc zero) = omega arith in
+        entry k (suc zero) l o
+        ∙ ap digit (ap not (bits k l) ∙ sym (value-negative N (has assignment) [] (v + k) (omega arith)) ∙ ap (referenceValue N (has assignment) []) at)
+    literals k (suc (suc odd)) l o = absurd (omega arith)
 
-pub pair-false : (bit : ℕ) → (bit ≡ 1 → ⊥) → Paired bit 256
-pair-false bit n = record { first = ap digit (sym (ne-eqb bit 1 n)); second = ap (λ (b : Bool). digit (not b)) (sym (ne-eqb bit 1 n)) }
+    go : (r : ℕ) → r < 2 + 2 * (v + 4) → Dec (r < 2 + 2 * v) → getD last r 0 ≡ digit (referenceValue N (has assignment) [] r)
+    go r l (yes q) = row .before r q ∙ filled .byte r q
+    go r l (no q) =
+        let at : 2 + 2 * v + (2 * ((r - (2 + 2 * v)) / 2) + (r - (2 + 2 * v)) % 2) ≡ r = omega arith in
+        subst (λ (x : ℕ). getD last x 0 ≡ digit (referenceValue N (has assignment) [] x)) at
+        (literals ((r - (2 + 2 * v)) / 2) ((r - (2 + 2 * v)) % 2) (omega arith) (omega arith))
 
-pub pair-small : (bit pair : ℕ) → Paired bit pair → pair / 256 < 256
-pair-small bit pair paired = omega (arith, paired .second, go (not (eqb bit 1)))
-  where
-    go : (b : Bool) → digit b < 256
-    go true = omega arith
-    go false = omega arith
+-- the bits of a byte's halves
+low-half : (b k : ℕ) → k < 4 → b % 16 / 2 ^ k % 2 ≡ b / 2 ^ k % 2
+low-half b zero l = let e : b % 16 / 1 % 2 ≡ b / 1 % 2 = omega arith in e
+low-half b (suc zero) l = let e : b % 16 / 2 % 2 ≡ b / 2 % 2 = omega arith in e
+low-half b (suc (suc zero)) l = let e : b % 16 / 4 % 2 ≡ b / 4 % 2 = omega arith in e
+low-half b (suc (suc (suc zero))) l = let e : b % 16 / 8 % 2 ≡ b / 8 % 2 = omega arith in e
+low-half b (suc (suc (suc (suc k)))) l = absurd (omega arith)
+
+high-half : (b k : ℕ) → k < 4 → b / 16 / 2 ^ k % 2 ≡ b / 2 ^ (4 + k) % 2
+high-half b zero l = let e : b / 16 / 1 % 2 ≡ b / 16 % 2 = omega arith in e
+high-half b (suc zero) l = let e : b / 16 / 2 % 2 ≡ b / 32 % 2 = omega arith in e
+high-half b (suc (suc zero)) l = let e : b / 16 / 4 % 2 ≡ b / 64 % 2 = omega arith in e
+high-half b (suc (suc (suc zero))) l = let e : b / 16 / 8 % 2 ≡ b / 128 % 2 = omega arith in e
+high-half b (suc (suc (suc (suc k)))) l = absurd (omega arith)
 
 byte-bit : (assignment : List ℕ) (j k : ℕ) → k < 8 → eqb (getD assignment j 0 / 2 ^ k % 2) 1 ≡ has assignment (8 * j + k)
 byte-bit assignment j k l = bit-shifted (getD assignment j 0) k ∙ sym (has-at assignment j k l)
 
-pub filled-pair : (N : ℕ) (assignment bytes : List ℕ) (j k pair : ℕ) → k < 8 → 8 * j + 8 ≤ N → 2 + 2 * N ≤ length bytes → Paired (getD assignment j 0 / 2 ^ k % 2) pair
-    → Filled N assignment (8 * j + k) bytes
-    → Filled N assignment (8 * j + (k + 1)) (set (set bytes (2 + 2 * (8 * j + k)) (pair % 256)) (3 + 2 * (8 * j + k)) (pair / 256))
-filled-pair N assignment bytes j k pair l small room paired filled =
-    let bit = byte-bit assignment j k l in
-    let next : 8 * j + k + 1 ≡ 8 * j + (k + 1) = omega arith in
-    subst (λ (v : ℕ). Filled N assignment v (set (set bytes (2 + 2 * (8 * j + k)) (pair % 256)) (3 + 2 * (8 * j + k)) (pair / 256))) next
-    (filled-next N assignment bytes (8 * j + k) (pair % 256) (pair / 256) (omega arith) room (paired .first ∙ ap digit bit)
-    (paired .second ∙ ap (λ (b : Bool). digit (not b)) bit) filled)
+-- the values of a byte's variables, by a row for each half of it
+pub filled-byte : (N : ℕ) (assignment bytes between last : List ℕ) (j : ℕ) → 8 * j + 8 ≤ N
+    → RowFilled (getD assignment j 0 % 16) (2 + 16 * j) bytes between → RowFilled (getD assignment j 0 / 16) (2 + 16 * j + 8) between last
+    → Filled N assignment (8 * j) bytes → Filled N assignment (8 * (j + 1)) last
+filled-byte N assignment bytes between last j small low high filled =
+    let b = getD assignment j 0 in
+    let first-at : 2 + 16 * j ≡ 2 + 2 * (8 * j) = omega arith in
+    let second-at : 2 + 16 * j + 8 ≡ 2 + 2 * (8 * j + 4) = omega arith in
+    let all : 8 * j + 4 + 4 ≡ 8 * (j + 1) = omega arith in
+    let first =
+    filled-row N assignment bytes between (8 * j) (b % 16) (omega arith)
+    (λ k l. ap (λ (x : ℕ). eqb x 1) (low-half b k l) ∙ byte-bit assignment j k (omega arith))
+    (subst (λ (x : ℕ). RowFilled (b % 16) x bytes between) first-at low) filled in
+    subst (λ (v : ℕ). Filled N assignment v last) all
+    (filled-row N assignment between last (8 * j + 4) (b / 16) (omega arith)
+    (λ k l.
+    let at : 8 * j + (4 + k) ≡ 8 * j + 4 + k = omega arith in
+    ap (λ (x : ℕ). eqb x 1) (high-half b k l) ∙ byte-bit assignment j (4 + k) (omega arith) ∙ ap (has assignment) at)
+    (subst (λ (x : ℕ). RowFilled (b / 16) x between last) second-at high) first)
 
 -- the values that are kept
 pub known-none : (N : ℕ) (assignment t bytes : List ℕ) → Filled N assignment N bytes → Known N (has assignment) (values N (has assignment) [] (gatesOf t 0)) 0 bytes

@@ -1,7 +1,7 @@
 -- What the private pieces of the evaluation ask and promise. No public contract speaks of these.
-use Prim.Native.Nat.{ℕ, _+_, _*_, _/_, _%_, _<_}
+use Prim.Native.Nat.{ℕ, _+_, _*_, _/_, _%_, _^_, _<_}
 use mathlib.Core.Path.{_≡_}
-use mathlib.Core.Bool.{Bool, not}
+use mathlib.Core.Bool.{Bool, not, cond}
 use mathlib.Core.List.{List, []}
 use lib.Dec.{eqb}
 use lib.ListN.{length, getD}
@@ -28,10 +28,19 @@ pub record GateRead (table : List ℕ) (k : ℕ) (g : GateRecord) : Type 0 where
   pub right : g .right ≡ gateAt table k .right
   pub spare : g .spare ≡ spareAt table k
 
--- r has the values of a variable's literals by its bit, the positive one's in its low byte
-pub record Paired (bit r : ℕ) : Type 0 where
-  pub first : r % 256 ≡ digit (eqb bit 1)
-  pub second : r / 256 ≡ digit (not (eqb bit 1))
+-- value i of row n: of four variables with the bits of n each has its two literals
+unfoldable pub rowValue : ℕ → ℕ → ℕ
+rowValue n i =
+    let bit = eqb (n / 2 ^ (i / 2) % 2) 1 in
+    digit (cond (eqb (i % 2) 0) bit (not bit))
+
+pub record Rows (rows : List (List ℕ)) : Type 0 where
+  pub value : (n i : ℕ) → n < 16 → i < 8 → getD (getD rows n []) i 0 ≡ rowValue n i
+
+-- the eight values from `at` on are those of row n, and those before are as they were
+pub record RowFilled (n at : ℕ) (values last : List ℕ) : Type 0 where
+  pub filled : (i : ℕ) → i < 8 → getD last (at + i) 0 ≡ rowValue n i
+  pub before : (r : ℕ) → r < at → getD last r 0 ≡ getD values r 0
 
 -- the bytes are the values of the constants and of both literals of the first v variables
 pub record Filled (N : ℕ) (assignment : List ℕ) (v : ℕ) (bytes : List ℕ) : Type 0 where

@@ -7,7 +7,7 @@ ghost use Prim.Native.Nat.{_+_, _*_, _/_, _<_, _≤_};
 ghost use lib.ListN.{length};
 ghost use Rattle.records.specs.Step.{pairAt};
 ghost use Rattle.circuits.specs.Evaluate.{gateEvaluated, evaluated, Evaluates};
-ghost use Rattle.circuits.specs.EvaluateInside.{lengthNumber, GateRead, Paired, Filled, recordEvaluated, Ran};
+ghost use Rattle.circuits.specs.EvaluateInside.{lengthNumber, GateRead, Rows, RowFilled, Filled, recordEvaluated, Ran};
 
 // A refusal's number and place with value 0, or 0, 0 and the value, 0 or 1.
 #[repr(C)]
@@ -106,32 +106,55 @@ fn evaluate_record(table: &[u8], k: usize, values: &[u8]) -> Evaluated
     evaluate_gate(kind, left, right, k, values)
 }
 
-// The values of a variable's literals by its bit, as two bytes of one number, the positive literal's first: with the number the compiler
-// writes many of them at once.
-fn literal_pair(bit: u8) -> u16
-    ensures { λ r. ⌜ Paired bit r ⌝ }
+// The values of the two literals of each of four variables, a row for each way their bits can be.
+const ROWS: [[u8; 8]; 16] = [
+    [0, 1, 0, 1, 0, 1, 0, 1],
+    [1, 0, 0, 1, 0, 1, 0, 1],
+    [0, 1, 1, 0, 0, 1, 0, 1],
+    [1, 0, 1, 0, 0, 1, 0, 1],
+    [0, 1, 0, 1, 1, 0, 0, 1],
+    [1, 0, 0, 1, 1, 0, 0, 1],
+    [0, 1, 1, 0, 1, 0, 0, 1],
+    [1, 0, 1, 0, 1, 0, 0, 1],
+    [0, 1, 0, 1, 0, 1, 1, 0],
+    [1, 0, 0, 1, 0, 1, 1, 0],
+    [0, 1, 1, 0, 0, 1, 1, 0],
+    [1, 0, 1, 0, 0, 1, 1, 0],
+    [0, 1, 0, 1, 1, 0, 1, 0],
+    [1, 0, 0, 1, 1, 0, 1, 0],
+    [0, 1, 1, 0, 1, 0, 1, 0],
+    [1, 0, 1, 0, 1, 0, 1, 0],
+];
+
+// The rows, to be lent: so they are laid down once, and not at each look-up.
+fn literal_rows() -> [[u8; 8]; 16]
+    ensures { λ r. ⌜ Rows r ⌝ }
 {
-    if bit == 1 {
-        return 1;
+    ROWS
+}
+
+// The eight values from `at` on, by row n.
+fn fill_row(rows: &[[u8; 8]; 16], n: usize, values: &mut [u8], at: usize)
+    requires { ⌜ Rows (now rows) × (n < 16) × (at + 8 ≤ length (now values)) ⌝ }
+    ensures { λ r. ⌜ RowFilled n at (now (values .entry)) (now (values .exit)) ⌝ }
+{
+    let mut i: usize = 0;
+    while i < 8 {
+        values[at + i] = rows[n][i];
+        i += 1;
     }
-    256
 }
 
 // The values of the literals of byte j of the assignment, behind those of the bytes before it.
-fn fill_byte(variables: usize, assignment: &[u8], j: usize, values: &mut [u8])
-    requires { ⌜ (variables ≤ 512) × (j < length (now assignment)) × (8 * j + 8 ≤ variables) × (2 + 2 * variables ≤ length (now values)) × Filled variables (now assignment) (8 * j) (now values) ⌝ }
+fn fill_byte(variables: usize, assignment: &[u8], j: usize, rows: &[[u8; 8]; 16], values: &mut [u8])
+    requires { ⌜ (j < length (now assignment)) × (8 * j + 8 ≤ variables) × (variables ≤ 512) × (2 + 2 * variables ≤ length (now values)) ⌝ }
+    requires { ⌜ Rows (now rows) × Filled variables (now assignment) (8 * j) (now values) ⌝ }
     ensures { λ r. ⌜ Filled variables (now (assignment .entry)) (8 * (j + 1)) (now (values .exit)) ⌝ }
 {
-    let byte = assignment[j];
-    let mut k: usize = 0;
-    while k < 8 {
-        let v = 8 * j + k;
-        let place = k as u8;
-        let pair = literal_pair((byte >> place) % 2);
-        values[2 + 2 * v] = (pair % 256) as u8;
-        values[3 + 2 * v] = (pair / 256) as u8;
-        k += 1;
-    }
+    let byte = assignment[j] as usize;
+    let at = 2 + 16 * j;
+    fill_row(rows, byte % 16, values, at);
+    fill_row(rows, byte / 16, values, at + 8);
 }
 
 // The values of the constants and of all literals.
@@ -141,10 +164,11 @@ fn fill_literals(half: usize, assignment: &[u8], values: &mut [u8])
 {
     values[0] = 0;
     values[1] = 1;
+    let rows = literal_rows();
     let variables = 8 * half;
     let mut j: usize = 0;
     while j < half {
-        fill_byte(variables, assignment, j, values);
+        fill_byte(variables, assignment, j, &rows, values);
         j += 1;
     }
 }
