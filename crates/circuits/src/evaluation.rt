@@ -180,7 +180,7 @@ fn evaluate_gates(
     table: &[u8],
     values: &mut [u8],
 ) -> records::Verdict
-    requires { ⌜ (half ≤ 64) × (half ≤ length (now assignment)) × (length (now table) / 8 < 4294967296) × (2 + 16 * half + length (now table) / 8 ≤ length (now values)) ⌝ }
+    requires { ⌜ (half ≤ 64) × (half ≤ length (now assignment)) × (2 + 16 * half + length (now table) / 8 ≤ length (now values)) ⌝ }
     ensures { λ r. ⌜ Ran (8 * half) (now (assignment .entry)) (now (table .entry)) (now (values .exit)) r ⌝ }
 {
     fill_literals(half, assignment, values);
@@ -230,7 +230,7 @@ fn evaluate_halves(
     root: usize,
     values: &mut [u8],
 ) -> Evaluated
-    requires { ⌜ (half ≤ 64) × (most < 4294967296) × (2 + 16 * half + most ≤ length (now values)) ⌝ }
+    requires { ⌜ (half ≤ 64) × (2 + 16 * half + most ≤ length (now values)) ⌝ }
     ensures { λ r. ⌜ Evaluates (evaluated half most (now (assignment .entry)) (now (table .entry)) root) r ⌝ }
 {
     let lengths = test_lengths(half, most, assignment, table);

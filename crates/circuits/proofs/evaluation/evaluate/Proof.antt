@@ -10,7 +10,7 @@ slice-aggregate-evaluate-halves : tie.Need-slice-aggregate-evaluate-halves
 slice-aggregate-evaluate-halves c = sym (length-replicate {A = ℕ} 3586 0)
 
 evaluate-halves-requires : tie.Need-evaluate-halves-requires
-evaluate-halves-requires c κs = (omega arith, omega arith, omega (arith, length-replicate {A = ℕ} 3586 0))
+evaluate-halves-requires c κs = (omega arith, omega (arith, length-replicate {A = ℕ} 3586 0))
 
 returns : tie.Need-returns
 returns c = c .before .evaluate-halves .ensures

@@ -20,7 +20,7 @@ evaluate-gates-requires c κs =
     let good = sym (c .before .if1 .left) ∙ c .before .before .test-lengths .ensures in
     let size = lengths-size _ _ _ _ good in
     let few = lengths-few _ _ _ _ good in
-    (omega arith, omega (arith, size), omega (arith, few), omega (arith, few))
+    (omega arith, omega (arith, size), omega (arith, few))
 
 refuse-requires-2 : tie.Need-refuse-requires-2
 refuse-requires-2 c κs = search needs
