@@ -8,6 +8,7 @@ use native.Mathlib.Omega.{arith}
 use borrow.Author.Count.{below-more}
 use borrow.Author.Tests.{eq-eqb, ne-eqb, eqb-true, eqb-false, lt-ltb, le-ltb, ltb-true, le-leb, lt-leb, leb-true}
 use lib.Bits.{bitAnd, bitOr}
+use lib.Pow.{shr-shr, field, mod-mod-pow}
 use lib.Dec.{eqb, leb, ltb}
 use lib.ListN.{length, getD, set, length-set}
 use lib.Seq.{getD-set-same, getD-set-other, getD-append-seam}
@@ -271,20 +272,14 @@ filled-row N assignment bytes last v n small bits row filled = record { byte = �
         subst (λ (x : ℕ). getD last x 0 ≡ digit (referenceValue N (has assignment) [] x)) at
         (literals ((r - (2 + 2 * v)) / 2) ((r - (2 + 2 * v)) % 2) (omega arith) (omega arith))
 
--- the bits of a byte's halves
-low-half : (b k : ℕ) → k < 4 → b % 16 / 2 ^ k % 2 ≡ b / 2 ^ k % 2
-low-half b zero l = let e : b % 16 / 1 % 2 ≡ b / 1 % 2 = omega arith in e
-low-half b (suc zero) l = let e : b % 16 / 2 % 2 ≡ b / 2 % 2 = omega arith in e
-low-half b (suc (suc zero)) l = let e : b % 16 / 4 % 2 ≡ b / 4 % 2 = omega arith in e
-low-half b (suc (suc (suc zero))) l = let e : b % 16 / 8 % 2 ≡ b / 8 % 2 = omega arith in e
-low-half b (suc (suc (suc (suc k)))) l = absurd (omega arith)
+-- bit k of a number's lowest m bits, and of the others
+low-bits : (n m k : ℕ) → k < m → n % 2 ^ m / 2 ^ k % 2 ≡ n / 2 ^ k % 2
+low-bits n m k l =
+    let all : m ≡ m - k - 1 + 1 + k = omega arith in
+    ap (λ (e : ℕ). n % 2 ^ e / 2 ^ k % 2) all ∙ ap (λ (x : ℕ). x % 2) (field n (m - k - 1 + 1) k) ∙ mod-mod-pow (n / 2 ^ k) (m - k - 1) 1
 
-high-half : (b k : ℕ) → k < 4 → b / 16 / 2 ^ k % 2 ≡ b / 2 ^ (4 + k) % 2
-high-half b zero l = let e : b / 16 / 1 % 2 ≡ b / 16 % 2 = omega arith in e
-high-half b (suc zero) l = let e : b / 16 / 2 % 2 ≡ b / 32 % 2 = omega arith in e
-high-half b (suc (suc zero)) l = let e : b / 16 / 4 % 2 ≡ b / 64 % 2 = omega arith in e
-high-half b (suc (suc (suc zero))) l = let e : b / 16 / 8 % 2 ≡ b / 128 % 2 = omega arith in e
-high-half b (suc (suc (suc (suc k)))) l = absurd (omega arith)
+high-bits : (n m k : ℕ) → n / 2 ^ m / 2 ^ k % 2 ≡ n / 2 ^ (m + k) % 2
+high-bits n m k = ap (λ (x : ℕ). x % 2) (shr-shr n m k)
 
 byte-bit : (assignment : List ℕ) (j k : ℕ) → k < 8 → eqb (getD assignment j 0 / 2 ^ k % 2) 1 ≡ has assignment (8 * j + k)
 byte-bit assignment j k l = bit-shifted (getD assignment j 0) k ∙ sym (has-at assignment j k l)
@@ -300,13 +295,13 @@ filled-byte N assignment bytes between last j small low high filled =
     let all : 8 * j + 4 + 4 ≡ 8 * (j + 1) = omega arith in
     let first =
     filled-row N assignment bytes between (8 * j) (b % 16) (omega arith)
-    (λ k l. ap (λ (x : ℕ). eqb x 1) (low-half b k l) ∙ byte-bit assignment j k (omega arith))
+    (λ k l. ap (λ (x : ℕ). eqb x 1) (low-bits b 4 k l) ∙ byte-bit assignment j k (omega arith))
     (subst (λ (x : ℕ). RowFilled (b % 16) x bytes between) first-at low) filled in
     subst (λ (v : ℕ). Filled N assignment v last) all
     (filled-row N assignment between last (8 * j + 4) (b / 16) (omega arith)
     (λ k l.
     let at : 8 * j + (4 + k) ≡ 8 * j + 4 + k = omega arith in
-    ap (λ (x : ℕ). eqb x 1) (high-half b k l) ∙ byte-bit assignment j (4 + k) (omega arith) ∙ ap (has assignment) at)
+    ap (λ (x : ℕ). eqb x 1) (high-bits b 4 k) ∙ byte-bit assignment j (4 + k) (omega arith) ∙ ap (has assignment) at)
     (subst (λ (x : ℕ). RowFilled (b / 16) x between last) second-at high) first)
 
 -- the values that are kept

@@ -60,11 +60,12 @@ referenceTests N root count = test (ltb root (gateReference N count)) 24 0 ∷ [
 unfoldable pub keptAt : List ℕ → ℕ → Bool
 keptAt bytes r = bitOf (getD bytes r 0) 0
 
--- the AND/OR of the values that are kept for a gate's two inputs
+-- "Byte 0 is 1 for AND, 2 for OR", of the values that are kept for a gate's two inputs
 abbrev pub keptValue : List ℕ → Gate → Bool
 keptValue bytes g = kindValue (g .kind) (keptAt bytes (g .left)) (keptAt bytes (g .right))
 
--- one gate, gate k, behind the references whose values are kept: its own reference is their number
+-- one gate on plain numbers, gate k, behind the references whose values are kept: 22 by its kind, 23, or its value. "514 + k is gate k", so that
+-- its own reference is the number of references before it
 unfoldable pub gateEvaluated : List ℕ → ℕ → Gate → Evaluated
 gateEvaluated bytes k g = answered (firstFailed (formTests (length bytes) k g)) (keptValue bytes g)
 

@@ -28,12 +28,13 @@ pub record GateRead (table : List ℕ) (k : ℕ) (g : GateRecord) : Type 0 where
   pub right : g .right ≡ gateAt table k .right
   pub spare : g .spare ≡ spareAt table k
 
--- value i of row n: of four variables with the bits of n each has its two literals
+-- "2 + 2v is xv, 3 + 2v is not xv", of four variables whose values are the bits of n: value i of row n
 unfoldable pub rowValue : ℕ → ℕ → ℕ
 rowValue n i =
     let bit = eqb (n / 2 ^ (i / 2) % 2) 1 in
     digit (cond (eqb (i % 2) 0) bit (not bit))
 
+-- the rows of constants follow that rule
 pub record Rows (rows : List (List ℕ)) : Type 0 where
   pub value : (n i : ℕ) → n < 16 → i < 8 → getD (getD rows n []) i 0 ≡ rowValue n i
 

@@ -166,26 +166,32 @@ has-empty r b h =
     empty-is r
     (λ i l. bits-ext 8 (getD r i 0) 0 (b i) (omega arith) (λ k m. sym (has-at r i k m) ∙ h (8 * i + k) (omega arith) ∙ sym (zero-bit k)))
 
--- a loop that writes f i at i, one index a turn
+-- a loop that writes f i at place p i, one a turn
+pub written-at : (p f : ℕ → ℕ) (out : List ℕ) (i v : ℕ) → ((k : ℕ) → k < i → p k ≡ p i → ⊥) → p i < length out
+    → ((k : ℕ) → k < i → getD out (p k) 0 ≡ f k) → v ≡ f i → (k : ℕ) → k < i + 1 → getD (set out (p i) v) (p k) 0 ≡ f k
+written-at p f out i v apart l all e =
+    below-more (λ (k : ℕ). getD (set out (p i) v) (p k) 0 ≡ f k) i
+    (λ k m. getD-set-other out (p i) (p k) v 0 (apart k m) ∙ all k m) (getD-set-same out (p i) v 0 l ∙ e)
+
+-- at i itself
 pub written : (f : ℕ → ℕ) (out : List ℕ) (i v : ℕ) → i < length out → ((k : ℕ) → k < i → getD out k 0 ≡ f k) → v ≡ f i
     → (k : ℕ) → k < i + 1 → getD (set out i v) k 0 ≡ f k
-written f out i v l all e =
-    below-more (λ (k : ℕ). getD (set out i v) k 0 ≡ f k) i
-    (λ k m. getD-set-other out i k v 0 (λ q. lt-irrefl k (omega arith)) ∙ all k m) (getD-set-same out i v 0 l ∙ e)
+written f out i v = written-at (λ k. k) f out i v (λ k m q. lt-irrefl k (omega arith))
+
+-- behind the first `at`
+pub written-behind : (at : ℕ) (f : ℕ → ℕ) (out : List ℕ) (i v : ℕ) → at + i < length out → ((k : ℕ) → k < i → getD out (at + k) 0 ≡ f k) → v ≡ f i
+    → (k : ℕ) → k < i + 1 → getD (set out (at + i) v) (at + k) 0 ≡ f k
+written-behind at f out i v = written-at (λ k. at + k) f out i v (λ k m q. lt-irrefl k (omega arith))
 
 -- one that writes f i at i and g i at h + i
 pub written-halves : (f g : ℕ → ℕ) (h : ℕ) (out : List ℕ) (i v w : ℕ) → i < h → h + i < length out
     → ((k : ℕ) → k < i → (getD out k 0 ≡ f k) × (getD out (h + k) 0 ≡ g k)) → v ≡ f i → w ≡ g i
     → (k : ℕ) → k < i + 1 → (getD (set (set out i v) (h + i) w) k 0 ≡ f k) × (getD (set (set out i v) (h + i) w) (h + k) 0 ≡ g k)
-written-halves f g h out i v w l room all e d =
-    below-more (λ (k : ℕ). (getD (set (set out i v) (h + i) w) k 0 ≡ f k) × (getD (set (set out i v) (h + i) w) (h + k) 0 ≡ g k)) i
-    (λ k m. (
-      getD-set-other (set out i v) (h + i) k w 0 (λ q. lt-irrefl k (omega arith)) ∙ getD-set-other out i k v 0 (λ q. lt-irrefl k (omega arith)) ∙ all k m .0,
-      getD-set-other (set out i v) (h + i) (h + k) w 0 (λ q. lt-irrefl k (omega arith)) ∙ getD-set-other out i (h + k) v 0 (λ q. lt-irrefl i (omega arith)) ∙ all k m .1,
-    )) (
-      getD-set-other (set out i v) (h + i) i w 0 (λ q. lt-irrefl i (omega arith)) ∙ getD-set-same out i v 0 (omega arith) ∙ e,
-      getD-set-same (set out i v) (h + i) w 0 (omega (arith, length-set out i v)) ∙ d,
-    )
+written-halves f g h out i v w l room all e d k m = (
+  getD-set-other (set out i v) (h + i) k w 0 (λ q. lt-irrefl k (omega arith)) ∙ written f out i v (omega arith) (λ j n. all j n .0) e k m,
+  written-behind h g (set out i v) i w (omega (arith, length-set out i v))
+      (λ j n. getD-set-other out i (h + j) v 0 (λ q. lt-irrefl i (omega arith)) ∙ all j n .1) d k m,
+)
 
 -- and leaves what it has not come to
 pub unwritten : (f : ℕ → ℕ) (out : List ℕ) (i v : ℕ) → ((k : ℕ) → i ≤ k → getD out k 0 ≡ f k) → (k : ℕ) → i + 1 ≤ k → getD (set out i v) k 0 ≡ f k

@@ -18,11 +18,11 @@ use Rattle.records.specs.Derivation.{inputs, clauseAt, stored}
 unfoldable pub allBut : ℕ → ℕ
 allBut k = numberOf 8 (λ j. not (eqb j k))
 
--- the mask of byte i that takes literal x out
+-- "masks remove the pivot's literals and join two clauses, byte by byte, in both halves of a record": the mask of byte i that takes literal x out
 unfoldable pub maskWithout : ℕ → ℕ → ℕ
 maskWithout x i = cond (eqb i (x / 8)) (allBut (x % 8)) 255
 
--- byte i of either half of the resolvent, by the mask that takes the pivot out
+-- byte i of the positive half: left without the pivot's literal, joined with right; of the negative half, the other way round
 unfoldable pub positiveByte : List ℕ → List ℕ → ℕ → ℕ → ℕ
 positiveByte left right pivot i = bitOr (bitAnd (getD left i 0) (maskWithout pivot i)) (getD right i 0)
 

@@ -4,10 +4,10 @@ use mathlib.Core.Path.{_≡_, refl, _∙_}
 use mathlib.Core.List.{[]}
 use native.Mathlib.Nat.{lt-irrefl}
 use native.Mathlib.Omega.{arith}
-use borrow.Author.Count.{below-more}
 use borrow.Author.Needs.{needs}
-use lib.ListN.{length, getD, set, length-set}
-use lib.Seq.{getD-set-same, getD-set-other}
+use lib.ListN.{length, getD, length-set}
+use lib.Seq.{getD-set-other}
+use Rattle.records.proofs.ClauseLaws.{written-behind}
 use Rattle.circuits.specs.EvaluateInside.{rowValue}
 use Rattle.circuits.proofs.evaluation.fill_row.Statement.{statement}
 use Rattle.circuits.proofs.evaluation.fill_row.Tie as tie
@@ -54,9 +54,7 @@ loop-again c =
     let x = getD (getD (args .rows .now) (args .n) []) (loop .i) 0 in (
       omega arith,
       simp length-set (loop .inv .1),
-      below-more (λ (k : ℕ). getD (set (loop .values) here x) (args .at + k) 0 ≡ rowValue (args .n) k) (loop .i)
-          (λ k l. getD-set-other (loop .values) here (args .at + k) x 0 (λ q. lt-irrefl k (omega arith)) ∙ loop .inv .2 k l)
-          (getD-set-same (loop .values) here x 0 (omega arith) ∙ c .before .before .before .pre .0 .value (args .n) (loop .i) (omega arith) (omega arith)),
+      written-behind (args .at) (rowValue (args .n)) (loop .values) (loop .i) x (omega arith) (loop .inv .2) (c .before .before .before .pre .0 .value (args .n) (loop .i) (omega arith) (omega arith)),
       λ r l. getD-set-other (loop .values) here r x 0 (λ q. lt-irrefl r (omega arith)) ∙ loop .inv .3 r l,
     )
 
