@@ -3,9 +3,9 @@ use Prim.Native.Nat.{ℕ, zero, suc, _+_, _-_, _*_, _/_, _%_, _^_, _≤_, _<_}
 use mathlib.Core.Path.{_≡_, refl, sym, ap, ap₂, subst, _∙_}
 use mathlib.Core.Bool.{Bool, true, false, not, _&&_, _||_, cond, true≢false, and-false}
 use mathlib.Core.List.{List, [], _∷_, _++_}
+use native.Mathlib.Nat.{zero-add}
 use native.Mathlib.Decide.{decLt}
 use native.Mathlib.Omega.{arith}
-use borrow.Author.Count.{below-more}
 use borrow.Author.Tests.{eq-eqb, ne-eqb, eqb-true, eqb-false, lt-ltb, le-ltb, ltb-true, le-leb, lt-leb, leb-true}
 use lib.Bits.{bitAnd, bitOr}
 use lib.Pow.{shr-shr, field, mod-mod-pow}
@@ -221,25 +221,35 @@ filled-start N assignment bytes room =
     filled-none N assignment (set (set bytes 0 0) 1 1) (getD-set-other (set bytes 0 0) 1 0 1 0 (omega arith) ∙ getD-set-same bytes 0 0 0 (omega arith))
     (getD-set-same (set bytes 0 0) 1 1 0 (omega (arith, length-set bytes 0 0)))
 
--- a test of all numbers below n, one after the other
-abbrev pub holdsBelow : (ℕ → Bool) → ℕ → Bool
-holdsBelow p zero = true
-holdsBelow p (suc n) = holdsBelow p n && p n
+-- a test of each member of a list and its place, counted from i, so that the list is computed once
+abbrev pub holdsFrom : {A : Type 0} → (ℕ → A → Bool) → ℕ → List A → Bool
+holdsFrom p i [] = true
+holdsFrom p i (x ∷ xs) = p i x && holdsFrom p (suc i) xs
 
-holds-at : (p : ℕ → Bool) (n : ℕ) → holdsBelow p n ≡ true → (k : ℕ) → k < n → p k ≡ true
-holds-at p zero e k l = absurd (omega arith)
-holds-at p (suc n) e k l =
-    let both = and-both (holdsBelow p n) (p n) e in
-    below-more (λ (j : ℕ). p j ≡ true) n (holds-at p n (both .0)) (both .1) k (omega arith)
+holds-at : {A : Type 0} (p : ℕ → A → Bool) (d : A) (xs : List A) (i : ℕ) → holdsFrom p i xs ≡ true → (k : ℕ) → k < length xs → p (i + k) (getD xs k d) ≡ true
+holds-at p d [] i e k l = absurd (omega arith)
+holds-at p d (x ∷ xs) i e zero l =
+    let here : i ≡ i + zero = omega arith in
+    subst (λ (j : ℕ). p j x ≡ true) here (and-both (p i x) (holdsFrom p (suc i) xs) e .0)
+holds-at p d (x ∷ xs) i e (suc k) l =
+    let there : suc i + k ≡ i + suc k = omega arith in
+    subst (λ (j : ℕ). p j (getD xs k d) ≡ true) there (holds-at p d xs (suc i) (and-both (p i x) (holdsFrom p (suc i) xs) e .1) k (omega arith))
 
--- the rows, by their rule
-pub rows-are : (rows : List (List ℕ)) → holdsBelow (λ n. holdsBelow (λ i. eqb (getD (getD rows n []) i 0) (rowValue n i)) 8) 16 ≡ true → Rows rows
-rows-are rows e =
+holds-all : {A : Type 0} (p : ℕ → A → Bool) (d : A) (xs : List A) → holdsFrom p 0 xs ≡ true → (k : ℕ) → k < length xs → p k (getD xs k d) ≡ true
+holds-all p d xs e k l = subst (λ (j : ℕ). p j (getD xs k d) ≡ true) (zero-add k) (holds-at p d xs 0 e k l)
+
+-- the rows, by their rule: sixteen of eight
+abbrev pub rowHolds : ℕ → List ℕ → Bool
+rowHolds n row = eqb (length row) 8 && holdsFrom (λ i x. eqb x (rowValue n i)) 0 row
+
+pub rows-are : (rows : List (List ℕ)) → length rows ≡ 16 → holdsFrom rowHolds 0 rows ≡ true → Rows rows
+rows-are rows size e =
     record {
       value =
           λ n i l m.
-          eqb-true (getD (getD rows n []) i 0) (rowValue n i)
-          (holds-at (λ i. eqb (getD (getD rows n []) i 0) (rowValue n i)) 8 (holds-at (λ n. holdsBelow (λ i. eqb (getD (getD rows n []) i 0) (rowValue n i)) 8) 16 e n l) i m);
+          let row = getD rows n [] in
+          let both = and-both (eqb (length row) 8) (holdsFrom (λ i x. eqb x (rowValue n i)) 0 row) (holds-all rowHolds [] rows e n (omega arith)) in
+          eqb-true (getD row i 0) (rowValue n i) (holds-all (λ i x. eqb x (rowValue n i)) 0 row (both .1) i (omega (arith, eqb-true (length row) 8 (both .0))));
     }
 
 -- the values of four variables more, by the row that has their bits

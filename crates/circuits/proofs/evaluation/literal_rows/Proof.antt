@@ -7,7 +7,7 @@ use Rattle.circuits.proofs.evaluation.literal_rows.Tie as tie
 
 returns : tie.Need-returns
 unfolding rowValue
-returns c = rows-are _ refl
+returns c = rows-are _ refl refl
 
 pub literal-rows-spec : {M : Type 1} → statement M
 literal-rows-spec = tie.close (tie.spec returns)
