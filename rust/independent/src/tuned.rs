@@ -1,11 +1,13 @@
-//! The tuned version: the same answers and bytes as the plain one, written for speed in safe Rust.
+//! The tuned version, the yardstick of the benchmarks: the same answers and bytes as the plain one, as fast as we could make it in safe Rust.
 
 use crate::{Answer, Evaluated};
+
+type Record = [u8; 64];
 
 /// A clause record as words; in each half variable v is bit v mod 64 of word v div 64.
 type Words = [u64; 8];
 
-fn words(record: &[u8; 64]) -> Words {
+fn words(record: &Record) -> Words {
     let (words, _) = record.as_chunks::<8>();
     std::array::from_fn(|j| u64::from_le_bytes(words[j]))
 }
@@ -14,33 +16,59 @@ fn is_empty(words: &Words) -> bool {
     words.iter().fold(0, |any, word| any | word) == 0
 }
 
-/// The variables that occur in the table, and its first empty clause.
-fn survey(table: &[[u8; 64]]) -> ([u64; 4], Option<usize>) {
-    let mut occurs = [0; 4];
-    let mut first_empty = None;
-    for (i, record) in table.iter().enumerate() {
-        let words = words(record);
-        for j in 0..4 {
-            occurs[j] |= words[j] | words[j + 4];
-        }
-        if first_empty.is_none() && is_empty(&words) {
-            first_empty = Some(i);
-        }
-    }
-    (occurs, first_empty)
+/// The lower of two numbers; kept out of the loops, since an empty clause is rare.
+#[cold]
+fn earlier(this: usize, other: usize) -> usize {
+    this.min(other)
 }
 
+/// Notes where each clause of the table stands; hands back the variables that occur in it, and its
+/// first empty clause or the number of clauses.
+fn survey<'t>(table: &'t [Record], clauses: &mut [&'t Record]) -> ([u64; 4], usize) {
+    let mut all: Words = [0; 8];
+    let first_empty = join(table, clauses, &mut all);
+    (std::array::from_fn(|j| all[j] | all[j + 4]), first_empty)
+}
+
+/// The same, with the table's literals added to all: behind a reference, so that the compiler keeps
+/// them in wide registers.
+#[inline(never)]
+fn join<'t>(table: &'t [Record], clauses: &mut [&'t Record], all: &mut Words) -> usize {
+    let mut first_empty = table.len();
+    for ((i, record), clause) in table.iter().enumerate().zip(clauses) {
+        *clause = record;
+        let words = words(record);
+        *all = std::array::from_fn(|j| all[j] | words[j]);
+        if is_empty(&words) {
+            first_empty = earlier(first_empty, i);
+        }
+    }
+    first_empty
+}
+
+/// All bits of a half but one variable's; aligned, so that it is read where it is used.
+#[repr(align(32))]
+struct Mask([u64; 4]);
+
+/// The mask of each variable.
+static MASKS: [Mask; 256] = {
+    let mut masks = [const { Mask([u64::MAX; 4]) }; 256];
+    let mut v = 0;
+    while v < 256 {
+        masks[v].0[v / 64] ^= 1 << (v % 64);
+        v += 1;
+    }
+    masks
+};
+
 /// Writes the resolvent into its row and tells whether it is empty.
-fn resolve(left: &[u8; 64], right: &[u8; 64], pivot: usize, row: &mut [u8; 64]) -> bool {
-    let (left, right) = (words(left), words(right));
-    // Selecting the pivot's word by comparison keeps both clauses in registers.
-    let bit = 1 << (pivot % 64);
-    let masks: [u64; 4] = std::array::from_fn(|j| if j == pivot / 64 { bit } else { 0 });
+fn resolve(left: &Words, right: &Words, pivot: u8, row: &mut Record) -> bool {
+    let Mask(mask) = &MASKS[usize::from(pivot)];
     let resolvent: Words = std::array::from_fn(|j| {
         if j < 4 {
-            left[j] & !masks[j] | right[j]
+            left[j] & mask[j] | right[j]
         } else {
-            left[j] | right[j] & !masks[j - 4]
+            left[j] | right[j] & mask[j - 4]
         }
     });
     let (row, _) = row.as_chunks_mut::<8>();
@@ -50,23 +78,37 @@ fn resolve(left: &[u8; 64], right: &[u8; 64], pivot: usize, row: &mut [u8; 64]) 
     is_empty(&resolvent)
 }
 
-/// Byte 0 of a gate record.
-const AND: u64 = 1;
-const OR: u64 = 2;
-
-fn gate(kind: u64, left: u16, right: u16) -> [u8; 8] {
-    (kind | u64::from(left) << 16 | u64::from(right) << 32).to_le_bytes()
-}
-
-/// The two antecedents of a step.
-fn antecedents(step: &[u8; 8]) -> (usize, usize) {
+/// A step's fields; its spare bytes are the rest of the number.
+fn fields(step: &[u8; 8]) -> (usize, usize, u8, u64) {
+    let step = u64::from_le_bytes(*step);
     (
-        usize::from(u16::from_le_bytes([step[0], step[1]])),
-        usize::from(u16::from_le_bytes([step[2], step[3]])),
+        usize::from(step as u16),
+        usize::from((step >> 16) as u16),
+        (step >> 32) as u8,
+        step >> 40,
     )
 }
 
-/// Writes the gates of all steps; hands back the root's reference and the gate count.
+/// One word of a record.
+fn word(record: &Record, at: usize) -> u64 {
+    let (words, _) = record.as_chunks::<8>();
+    u64::from_le_bytes(words[at])
+}
+
+/// Byte 0 of a gate record; OR is one more than AND.
+const AND: u64 = 1;
+const OR: u64 = 2;
+
+fn gate(kind: u64, left: u64, right: u64) -> [u8; 8] {
+    (kind + (left << 16) + (right << 32)).to_le_bytes()
+}
+
+/// What test 6 saw to.
+const ROOM: &str = "three gates a step have room";
+
+/// Writes the gates of all steps; hands back the root's reference and the gate count. Numbers below
+/// 1,024 are cut to ten bits: the steps are by the rule, and so no look-up needs a test.
+#[inline(never)]
 fn build(
     (a, b): (usize, usize),
     in_a: &[u64; 4],
@@ -75,32 +117,82 @@ fn build(
     root: usize,
     gates: &mut [[u8; 8]],
 ) -> (usize, usize) {
-    let mut references = [0; 1024];
+    let in_both: [u64; 4] = std::array::from_fn(|j| in_a[j] & in_b[j]);
+    let mut references = [0_u16; 1024];
     references[a..a + b].fill(1);
-    let mut count = 0;
-    for (i, step) in steps.iter().enumerate() {
-        let (left, right) = antecedents(step);
-        let (left, right) = (references[left], references[right]);
-        let pivot = usize::from(step[4]);
-        let occurs = |side: &[u64; 4]| side[pivot / 64] >> (pivot % 64) & 1 == 1;
-        let next = 514 + count as u16;
-        if occurs(in_a) && occurs(in_b) {
-            let positive = 2 + 2 * u16::from(step[4]);
-            let row = &mut gates[count..count + 3];
-            row[0] = gate(OR, positive, left);
-            row[1] = gate(OR, positive + 1, right);
-            row[2] = gate(AND, next, next + 1);
-            references[a + b + i] = next + 2;
-            count += 3;
+    let mut free = gates;
+    let mut next = 514;
+    for (own, step) in (a + b..1024).zip(steps) {
+        let (left, right, pivot, _) = fields(step);
+        let [left, right] = [left, right].map(|number| u64::from(references[number & 1023]));
+        let pivot = u64::from(pivot);
+        let occurs = |side: &[u64; 4]| side[(pivot / 64) as usize & 3] >> (pivot % 64) & 1;
+        if occurs(&in_both) != 0 {
+            let (row, rest) = free.split_first_chunk_mut().expect(ROOM);
+            let positive = 2 + 2 * pivot;
+            *row = [
+                gate(OR, positive, left),
+                gate(OR, positive + 1, right),
+                gate(AND, next, next + 1),
+            ];
+            references[own] = next as u16 + 2;
+            next += 3;
+            free = rest;
         } else {
-            let kind = if occurs(in_a) { OR } else { AND };
-            gates[count] = gate(kind, left, right);
-            references[a + b + i] = next;
-            count += 1;
+            let (row, rest) = free.split_first_mut().expect(ROOM);
+            *row = gate(AND + occurs(in_a), left, right);
+            references[own] = next as u16;
+            next += 1;
+            free = rest;
         }
     }
-    (usize::from(references[root]), count)
+    (usize::from(references[root & 1023]), next as usize - 514)
 }
+
+/// The refusal of a step that is not by the rule.
+#[cold]
+fn refusal(i: usize, step: &[u8; 8], clauses: &[&Record]) -> Answer {
+    let (left, right, pivot, spare) = fields(step);
+    let number = match (clauses.get(left), clauses.get(right)) {
+        _ if spare != 0 => 7,
+        (Some(left), Some(_)) if word(left, usize::from(pivot / 64)) >> (pivot % 64) & 1 == 0 => 9,
+        (Some(_), Some(_)) => 10,
+        _ => 8,
+    };
+    Answer::refusal(number, i)
+}
+
+/// Resolves all steps; hands back the number of the first empty result, or of clauses. A row that is
+/// written is lent on as a clause, so that the table need not be lent anew at each step.
+#[inline(never)]
+fn derive<'t>(
+    inputs: usize,
+    steps: &[[u8; 8]],
+    work: &'t mut [Record],
+    clauses: &mut [&'t Record],
+) -> Result<usize, Answer> {
+    let mut root = clauses.len();
+    for (own, (step, row)) in (inputs..clauses.len()).zip(steps.iter().zip(work)) {
+        let (left, right, pivot, spare) = fields(step);
+        let known = &clauses[..own];
+        let (Some(left), Some(right)) = (known.get(left), known.get(right)) else {
+            return Err(refusal(own - inputs, step, known));
+        };
+        let at = usize::from(pivot / 64);
+        let both = word(left, at) & word(right, 4 + at);
+        if spare != 0 || both >> (pivot % 64) & 1 == 0 {
+            return Err(refusal(own - inputs, step, known));
+        }
+        if resolve(&words(left), &words(right), pivot, row) {
+            root = earlier(root, own);
+        }
+        clauses[own] = row;
+    }
+    Ok(root)
+}
+
+/// What a place holds until a clause is noted there.
+static EMPTY: Record = [0; 64];
 
 /// Checks as `crate::check` does.
 pub fn check(a: &[u8], b: &[u8], steps: &[u8], work: &mut [u8], gates: &mut [u8]) -> Answer {
@@ -128,60 +220,64 @@ pub fn check(a: &[u8], b: &[u8], steps: &[u8], work: &mut [u8], gates: &mut [u8]
         return Answer::refusal(6, 0);
     }
 
-    let (in_a, empty_a) = survey(a);
-    let (in_b, empty_b) = survey(b);
-    let mut root = empty_a.or(empty_b.map(|i| a.len() + i));
-    for (i, step) in steps.iter().enumerate() {
-        let (results, rows) = work.split_at_mut(i);
-        // The lookup by number fails exactly where the number is not below the step's own.
-        let clause = |number: usize| {
-            if number < a.len() {
-                a.get(number)
-            } else if number < inputs {
-                b.get(number - a.len())
-            } else {
-                results.get(number - inputs)
-            }
-        };
-        if step[5] | step[6] | step[7] != 0 {
-            return Answer::refusal(7, i);
-        }
-        let (left, right) = antecedents(step);
-        let (Some(left), Some(right)) = (clause(left), clause(right)) else {
-            return Answer::refusal(8, i);
-        };
-        let pivot = usize::from(step[4]);
-        if left[pivot / 8] >> (pivot % 8) & 1 == 0 {
-            return Answer::refusal(9, i);
-        }
-        if right[32 + pivot / 8] >> (pivot % 8) & 1 == 0 {
-            return Answer::refusal(10, i);
-        }
-        if resolve(left, right, pivot, &mut rows[0]) && root.is_none() {
-            root = Some(inputs + i);
-        }
+    // As much room as is near what is needed: all of it is filled first.
+    let tables = (a, b, steps, work, gates);
+    match inputs + steps.len() {
+        0..=64 => derive_and_build(tables, &mut [&EMPTY; 64]),
+        65..=256 => derive_and_build(tables, &mut [&EMPTY; 256]),
+        _ => derive_and_build(tables, &mut [&EMPTY; 1024]),
     }
+}
 
-    let Some(place) = root else {
-        return Answer::refusal(11, 0);
+/// The tables' records, the gates still as bytes.
+type Tables<'t> = (
+    &'t [Record],
+    &'t [Record],
+    &'t [[u8; 8]],
+    &'t mut [Record],
+    &'t mut [u8],
+);
+
+/// Checks tables of the right lengths, with room to note where each clause stands.
+fn derive_and_build<'t>(
+    (a, b, steps, work, gates): Tables<'t>,
+    clauses: &mut [&'t Record],
+) -> Answer {
+    let inputs = a.len() + b.len();
+    let total = inputs + steps.len();
+    let (in_a, empty_a) = survey(a, &mut clauses[..a.len()]);
+    let (in_b, empty_b) = survey(b, &mut clauses[a.len()..inputs]);
+    let result = match derive(inputs, steps, work, &mut clauses[..total]) {
+        Ok(result) => result,
+        Err(answer) => return answer,
     };
+    let root = if empty_a < a.len() {
+        empty_a
+    } else if empty_b < b.len() {
+        a.len() + empty_b
+    } else {
+        result
+    };
+    if root == total {
+        return Answer::refusal(11, 0);
+    }
     let (gates, _) = gates.as_chunks_mut::<8>();
-    let (root, count) = build((a.len(), b.len()), &in_a, &in_b, steps, place, gates);
+    let (reference, count) = build((a.len(), b.len()), &in_a, &in_b, steps, root, gates);
     Answer {
         number: 0,
-        place,
-        root,
+        place: root,
+        root: reference,
         count,
     }
 }
 
-/// The values of the eight references of four neighbouring variables, by their four bits.
-const LITERALS: [[u8; 8]; 16] = {
-    let mut table = [[0; 8]; 16];
+/// The values of the sixteen references of eight neighbouring variables, by their eight bits.
+static LITERALS: [[u8; 16]; 256] = {
+    let mut table = [[0; 16]; 256];
     let mut bits = 0;
-    while bits < 16 {
+    while bits < 256 {
         let mut v = 0;
-        while v < 4 {
+        while v < 8 {
             let value = (bits >> v & 1) as u8;
             table[bits][2 * v] = value;
             table[bits][2 * v + 1] = 1 - value;
@@ -192,43 +288,55 @@ const LITERALS: [[u8; 8]; 16] = {
     table
 };
 
-/// Bytes 1, 6 and 7 of a gate record.
-const SPARE: u64 = 0xffff_0000_0000_ff00;
+/// Bytes 0, 1, 6 and 7 of a gate record: its kind, and the spare ones.
+const KIND: u64 = 0xffff_0000_0000_ffff;
 
 /// Evaluates as `crate::evaluate` does.
 pub fn evaluate(assignment: &[u8], table: &[u8], root: usize) -> Evaluated {
-    if assignment.len() != 32 {
+    let Ok(assignment) = assignment.try_into() else {
         return Evaluated::refusal(20, 0);
-    }
+    };
     let (gates, gates_rest) = table.as_chunks::<8>();
-    if !gates_rest.is_empty() || gates.len() > 3072 {
+    if !gates_rest.is_empty() {
         return Evaluated::refusal(21, 0);
     }
-
-    let mut values = [0; 514 + 3072];
-    values[1] = 1;
-    let (rows, _) = values[2..514].as_chunks_mut::<16>();
-    for (row, byte) in rows.iter_mut().zip(assignment) {
-        row[..8].copy_from_slice(&LITERALS[usize::from(byte & 15)]);
-        row[8..].copy_from_slice(&LITERALS[usize::from(byte >> 4)]);
+    // As much room as is near what is needed: all of it is cleared first.
+    match gates.len() {
+        0..=126 => value(assignment, gates, root, &mut [0; 640]),
+        127..=510 => value(assignment, gates, root, &mut [0; 1024]),
+        511..=3072 => value(assignment, gates, root, &mut [0; 514 + 3072]),
+        _ => Evaluated::refusal(21, 0),
     }
-    for (k, gate) in gates.iter().enumerate() {
+}
+
+/// Evaluates with room for the value of each reference.
+#[inline(never)]
+fn value(assignment: &[u8; 32], gates: &[[u8; 8]], root: usize, values: &mut [u8]) -> Evaluated {
+    let (constants, references) = values.split_at_mut(2);
+    constants[1] = 1;
+    let (rows, _) = references.as_chunks_mut::<16>();
+    for (row, byte) in rows.iter_mut().zip(assignment) {
+        *row = LITERALS[usize::from(*byte)];
+    }
+    let values = &mut values[..514 + gates.len()];
+    for (own, gate) in (514..values.len()).zip(gates) {
         let gate = u64::from_le_bytes(*gate);
-        let kind = gate as u8;
-        if kind.wrapping_sub(1) > 1 || gate & SPARE != 0 {
-            return Evaluated::refusal(22, k);
+        // 0 for AND and 1 for OR, and anything else where the gate is malformed.
+        let or = (gate & KIND).wrapping_sub(1);
+        if or > 1 {
+            return Evaluated::refusal(22, own - 514);
         }
         // Only earlier values are in reach, so a failed lookup is the test on the inputs.
-        let (known, rest) = values.split_at_mut(514 + k);
+        let known = &values[..own];
         let left = known.get(usize::from((gate >> 16) as u16));
         let right = known.get(usize::from((gate >> 32) as u16));
         let (Some(left), Some(right)) = (left, right) else {
-            return Evaluated::refusal(23, k);
+            return Evaluated::refusal(23, own - 514);
         };
-        // Without a branch on the kind: bit 1 of it lets the OR through.
-        rest[0] = left & right | (left | right) & (kind >> 1);
+        // Without a branch on the kind: one more for an OR, and half of the sum.
+        values[own] = (left + right + or as u8) / 2;
     }
-    match values[..514 + gates.len()].get(root) {
+    match values.get(root) {
         Some(value) => Evaluated::of(usize::from(*value)),
         None => Evaluated::refusal(24, 0),
     }
