@@ -225,17 +225,52 @@ fn antecedents(random: &mut Random, clause: &Clause, pivot: usize) -> (Clause, C
 /// loose clauses join tables A and B without being used.
 fn grown_back(random: &mut Random, variables: &[usize], most: usize, loose: Vec<Clause>) -> Plan {
     let firm = random.pick(&[0, 80, 97]);
-    grown_back_on_sides(random, variables, most, loose, firm)
+    let sides = Sides {
+        a: variables,
+        b: variables,
+        firm,
+    };
+    grown_back_on_sides(random, &sides, most, loose)
 }
 
-/// The same with a word on how firmly, in percent, the two antecedents stay on the side of their
-/// result: pivots on one side only are rare where every input clause falls on a side of its own.
+/// On which side the antecedents of a refutation stand that grows backwards.
+struct Sides<'a> {
+    /// The variables that A may name, and those that B may.
+    a: &'a [usize],
+    b: &'a [usize],
+    /// How firmly, in percent, the two antecedents stay on the side of their result: pivots on one
+    /// side only are rare where every input clause falls on a side of its own.
+    firm: usize,
+}
+
+impl Sides<'_> {
+    /// The variables that a side may name.
+    fn variables(&self, in_a: bool) -> &[usize] {
+        if in_a {
+            self.a
+        } else {
+            self.b
+        }
+    }
+
+    /// Whether an antecedent of a result on this side is in A.
+    fn antecedent_in_a(&self, random: &mut Random, clause: &Clause, in_a: bool) -> bool {
+        let other = self.variables(!in_a);
+        let bound = || (0..256).any(|v| clause.names(v) && !other.contains(&v));
+        if random.chance(self.firm) || bound() {
+            in_a
+        } else {
+            random.chance(50)
+        }
+    }
+}
+
+/// The same with a word on the sides.
 fn grown_back_on_sides(
     random: &mut Random,
-    variables: &[usize],
+    sides: &Sides,
     most: usize,
     loose: Vec<Clause>,
-    firm: usize,
 ) -> Plan {
     let tautologies = random.chance(15);
     let mut nodes = vec![Node {
@@ -247,7 +282,8 @@ fn grown_back_on_sides(
     let mut results = vec![];
     while results.len() < most && !open.is_empty() {
         let at = open.swap_remove(random.below(open.len()));
-        let free: Vec<usize> = variables
+        let free: Vec<usize> = sides
+            .variables(nodes[at].in_a)
             .iter()
             .copied()
             .filter(|&v| tautologies || !nodes[at].clause.names(v))
@@ -260,11 +296,7 @@ fn grown_back_on_sides(
         nodes[at].from = Some((nodes.len(), nodes.len() + 1, pivot));
         results.push(at);
         for clause in [left, right] {
-            let in_a = if random.chance(firm) {
-                nodes[at].in_a
-            } else {
-                random.chance(50)
-            };
+            let in_a = sides.antecedent_in_a(random, &clause, nodes[at].in_a);
             open.push(nodes.len());
             nodes.push(Node {
                 clause,
@@ -566,15 +598,40 @@ pub fn tables(random: &mut Random) -> Tables {
 
 /// A right refutation of exactly this many clauses, results included, about half of them results;
 /// the work and gate tables are just long enough, with junk.
-pub fn sized(random: &mut Random, total: usize) -> Tables {
-    let variables: Vec<usize> = (0..256).collect();
+fn of_size(random: &mut Random, total: usize, sides: &Sides) -> Tables {
     // A refutation of k steps has at most k + 1 input clauses.
     let most = (total - 1) / 2;
-    let mut plan = grown_back_on_sides(random, &variables, most, vec![], 80);
+    let mut plan = grown_back_on_sides(random, sides, most, vec![]);
     let unused = vec![Clause::of(&[0], &[1]); plan.missing(total)];
     plan.pad(unused);
     let s = plan.steps.len();
     plan.tables(random.bytes(64 * s), random.bytes(24 * s))
+}
+
+/// Such a refutation whose pivots are common for the most part.
+pub fn sized(random: &mut Random, total: usize) -> Tables {
+    let all: Vec<usize> = (0..256).collect();
+    let sides = Sides {
+        a: &all,
+        b: &all,
+        firm: 80,
+    };
+    of_size(random, total, &sides)
+}
+
+/// Such a refutation whose pivots are A-only, B-only and common in an order that follows no pattern.
+pub fn coloured(random: &mut Random, total: usize) -> Tables {
+    // A third of the variables each for A alone, for B alone and for both.
+    let [a, b] = [1, 0].map(|lacks| {
+        let named = (0..256).filter(|v| v % 3 != lacks);
+        named.collect::<Vec<usize>>()
+    });
+    let sides = Sides {
+        a: &a,
+        b: &b,
+        firm: 0,
+    };
+    of_size(random, total, &sides)
 }
 
 /// What one evaluation takes.
