@@ -3,73 +3,91 @@
 use std::env;
 use std::process::Command;
 
-use crate::cases::{self, Call, Job, Side};
-use crate::Both;
+use crate::calls::Side;
+use crate::cases::Case;
+use crate::figures::Figures;
+use crate::{Outcome, ONCE};
 
-/// The argument that asks for one call alone.
-const ONCE: &str = "--once";
-
-/// One call of one side.
+/// One round of calls of one side.
 pub struct Request {
-    call: Call,
+    case: Case,
     side: Side,
 }
 
 impl Request {
-    pub fn read(arguments: &[String]) -> Option<Request> {
-        let [once, name, side] = arguments else {
-            return None;
-        };
-        let side = Side::ALL.into_iter().find(|of| of.to_string() == *side)?;
-        let call = cases::all().into_iter().find(|call| call.name == *name)?;
-        (once == ONCE).then_some(Request { call, side })
+    /// The request by the names of a case and of a side.
+    pub fn read(case: &str, side: &str) -> Option<Request> {
+        let mut sides = Side::COMPARED.into_iter();
+        Some(Request {
+            case: Case::named(case)?,
+            side: sides.find(|of| of.to_string() == side)?,
+        })
     }
 
-    pub fn run(mut self) {
-        self.call.make(self.side);
-    }
-}
-
-fn valgrind() -> bool {
-    Command::new("valgrind")
-        .arg("--version")
-        .output()
-        .is_ok_and(|output| output.status.success())
-}
-
-/// What is to be known about the counts.
-pub fn remark() -> &'static str {
-    if valgrind() {
-        "Instructions are those of one call, what it calls included, as callgrind counts them."
-    } else {
-        "Instructions are left out: valgrind is not installed."
+    pub fn run(self) {
+        self.case.round().make(self.side);
     }
 }
 
-/// The instructions of one call for each side, if they can be counted.
-pub fn counts(call: &Call) -> Option<Both> {
-    let [library, tuned] = Side::ALL.map(|side| count(call, side));
-    Some([library?, tuned?])
+/// The instructions of a call for each case and each of the two sides.
+pub fn counts() -> Outcome<Figures> {
+    eprintln!("counting instructions");
+    let mut counts = Figures::default();
+    for case in Case::sections().concat() {
+        for side in Side::COMPARED {
+            let count = count(case, side)
+                .map_err(|why| format!("the instructions of {case} of {side}: {why}"))?;
+            counts.put(case, side, count);
+        }
+    }
+    Ok(counts)
 }
 
-fn count(call: &Call, side: Side) -> Option<f64> {
-    let job = match call.job {
-        Job::Check(_) => "check",
-        Job::Evaluate(_) => "evaluate",
-    };
-    // Each is called once in that process: its tables are made by the plain version.
+fn count(case: Case, side: Side) -> Outcome<f64> {
+    let function = case.function();
+    // In that process the round alone calls it: its tables are made by the plain version.
     let function = match side {
-        Side::Library => format!("privetcomb_{job}"),
-        Side::Tuned => format!("independent::tuned::{job}*"),
+        Side::Library => format!("privetcomb_{function}"),
+        Side::Yardstick => format!("independent::tuned::{function}*"),
+        Side::Copy => return Err("the plain copy is not counted".to_string()),
     };
+    let program = env::current_exe().map_err(|error| error.to_string())?;
     let output = Command::new("valgrind")
         .args(["--tool=callgrind", "--callgrind-out-file=/dev/null"])
         .arg(format!("--toggle-collect={function}"))
-        .arg(env::current_exe().ok()?)
-        .args([ONCE, &call.name, &side.to_string()])
+        .arg(program)
+        .args([ONCE, &case.to_string(), &side.to_string()])
         .output()
-        .ok()?;
+        .map_err(|error| format!("valgrind can't be started: {error}"))?;
     let report = String::from_utf8_lossy(&output.stderr);
-    let (_, collected) = report.split_once("Collected : ")?;
-    collected.split_whitespace().next()?.parse().ok()
+    if !output.status.success() {
+        return Err(format!("callgrind failed: {}\n{report}", output.status));
+    }
+    Ok(collected(&report)? / case.round().calls() as f64)
+}
+
+/// The count in a report of callgrind, which must be there and above zero.
+fn collected(report: &str) -> Outcome<f64> {
+    let count: u64 = report
+        .split_once("Collected : ")
+        .and_then(|(_, count)| count.split_whitespace().next()?.parse().ok())
+        .ok_or(format!("callgrind gave no count:\n{report}"))?;
+    if count == 0 {
+        return Err("callgrind counted none: the function has not been met".to_string());
+    }
+    Ok(count as f64)
+}
+
+#[cfg(test)]
+mod tests {
+    use super::collected;
+
+    #[test]
+    fn a_count_is_there_and_above_zero() {
+        let report = "==7== Events    : Ir\n==7== Collected : 6366\n==7== \n";
+        assert_eq!(collected(report), Ok(6366.0));
+        assert!(collected("==7== Events    : Ir\n").is_err());
+        assert!(collected("==7== Collected : \n").is_err());
+        assert!(collected("==7== Collected : 0\n").is_err());
+    }
 }
