@@ -25,6 +25,14 @@ fn native_name() -> Option<String> {
     Some(name.to_string())
 }
 
+/// The processor that the flags name, if they name one; the last flag counts.
+fn processor() -> Option<String> {
+    // The separator stands in no flag.
+    told("CARGO_ENCODED_RUSTFLAGS")
+        .rsplit('\u{1f}')
+        .find_map(|flag| Some(flag.split_once("target-cpu=")?.1.to_string()))
+}
+
 fn main() {
     println!("cargo::rerun-if-changed=build.rs");
     let record = |name: &str, value: &str| println!("cargo::rustc-env={name}={value}");
@@ -32,9 +40,7 @@ fn main() {
     record("YARDSTICK_LEVEL", &told("OPT_LEVEL"));
     record("YARDSTICK_TARGET", &told("TARGET"));
     record("YARDSTICK_FEATURES", &told("CARGO_CFG_TARGET_FEATURE"));
-    // Flags come with a separator that stands in no flag.
-    let flags = told("CARGO_ENCODED_RUSTFLAGS").replace('\u{1f}', " ");
-    record("YARDSTICK_FLAGS", &flags);
+    record("YARDSTICK_PROCESSOR", &processor().unwrap_or_default());
     record("NATIVE_NAME", &native_name().unwrap_or_default());
     let archive = env::var("DEP_PRIVETCOMB_ARCHIVE").expect("the wrapper's build names it");
     record("PRIVETCOMB_ARCHIVE", &archive);

@@ -4,7 +4,7 @@ use independent::records::{Clause, Step};
 use independent::tables::{Random, Tables};
 
 /// The steps of a chain: each of the 256 variables is the pivot of two.
-pub const STEPS: usize = 512;
+const STEPS: usize = 512;
 
 /// How the pivots, their signs and the sides of the input clauses follow each other.
 #[derive(Clone, Copy, Debug, PartialEq, Eq, PartialOrd, Ord)]

@@ -13,28 +13,35 @@ pub const LEVEL: &str = env!("YARDSTICK_LEVEL");
 
 /// How the yardstick of this process was built.
 pub fn yardstick() -> String {
-    let flags = match env!("YARDSTICK_FLAGS") {
-        "" => "no flags",
-        flags => flags,
+    let processor = match env!("YARDSTICK_PROCESSOR") {
+        "" => "no target-cpu named".to_string(),
+        processor => format!("target-cpu {processor}"),
     };
     format!(
-        "{}, opt-level {LEVEL}, {flags}, target {}, target features {}",
+        "{}, opt-level {LEVEL}, target {}, {processor}, target features {}",
         env!("YARDSTICK_COMPILER"),
         env!("YARDSTICK_TARGET"),
         env!("YARDSTICK_FEATURES").replace(',', " "),
     )
 }
 
+/// The archive of the library as it is linked here.
+const ARCHIVE: &[u8] = include_bytes!(env!("PRIVETCOMB_ARCHIVE"));
+
 /// How the library was built: what its toolchain says of it, and what its archive shows.
 pub fn library() -> Outcome<String> {
-    let archive = env!("PRIVETCOMB_ARCHIVE");
-    let bytes = fs::read(archive).map_err(|error| format!("the archive: {error}"))?;
+    let path = env!("PRIVETCOMB_ARCHIVE");
+    // The native build links what stands there now.
+    let now = fs::read(path).map_err(|error| format!("the archive: {error}"))?;
+    if now != ARCHIVE {
+        return Err("the archive has changed since it was linked: build again".to_string());
+    }
     Ok(format!(
         "libprivetcomb.a of {} bytes ({}), compiled ahead: `rattle build --help` says at -O3 by clang, for x86-64 \
          Linux, and `rt staticlib` names it no other level and no processor. {}",
-        bytes.len(),
-        logic(&bytes),
-        disassembled(archive)?,
+        ARCHIVE.len(),
+        logic(ARCHIVE),
+        disassembled(path)?,
     ))
 }
 

@@ -2,7 +2,7 @@
 
 use crate::calls::Side;
 use crate::cases::{Case, Family, SIZES};
-use crate::chain::{self, Order};
+use crate::chain::Order;
 use crate::costs::{Compared, Cost, Measured, MOST_INSTRUCTIONS, MOST_TIME};
 use crate::machine::{self, Processor};
 use crate::runs::{self, RUNS};
@@ -40,6 +40,7 @@ impl Section {
     }
 }
 
+/// Checks and evaluations of right refutations by their size.
 fn by_size() -> [Section; 2] {
     let sizes = SIZES.map(Family::Sized);
     let check = |family: Family| {
@@ -102,6 +103,7 @@ const OTHERS: [(Family, &str); 3] = [
     ),
 ];
 
+/// The same calls on these.
 fn by_branches() -> Section {
     let rows = OTHERS.into_iter().flat_map(|(family, name)| {
         let Shape {
@@ -192,7 +194,8 @@ fn by_move(measured: &Measured, out: &mut String) {
         ("a page of 512, one gate each", false),
         ("a page of 512, three gates each", true),
     ];
-    let pages = pages.map(|(name, common)| (name, step_page(common).part_of(chain::STEPS)));
+    let steps_a_page = PAGE / 8;
+    let pages = pages.map(|(name, common)| (name, step_page(common).part_of(steps_a_page)));
     let others = OTHERS.map(|(family, name)| {
         let steps = Shape::of(family).steps;
         (name, Cost::of(Case::Check(family)).part_of(steps))
@@ -209,6 +212,7 @@ fn by_move(measured: &Measured, out: &mut String) {
     }
 }
 
+/// How deep the calls go on the stack.
 fn by_stack(out: &mut String) -> Outcome<()> {
     *out += "\n## Stack\n\nMeasured on the largest tables above: the stack of a thread is filled with a pattern, the call is made, and the deepest \
              byte that has changed is looked for; the wrapper's own frame is counted in. Pages are those a stretch of so many bytes can lie on at \
@@ -270,7 +274,8 @@ pub fn preface(date: &str, processor: &Processor) -> Outcome<String> {
          - Library: {library}\n\
          - Yardstick, the Rust version written for speed (`independent::tuned`): {yardstick}.\n\
          - Native yardstick, the same built for this very processor: {native}.\n\n\
-         The instructions decide. They are those of one call, what it calls included, as callgrind counts them; the native yardstick's are not counted. A ratio is \
+         The instructions decide. They are those of one call, what it calls included, as callgrind counts them, and can differ by a few from one environment to another, \
+         by where the stack lies; the native yardstick's are not counted. A ratio is \
          library / yardstick.\n\n\
          Times are medians of {RUNS} runs, each in a process of its own, since where code and tables lie differs from process to process; behind a ratio stand \
          the least and the greatest of the runs. In a run both sides are called on the same tables, all calls of a section by turns; its times are medians of \
