@@ -1,7 +1,7 @@
 //! Instructions of one call, counted by callgrind in a process of its own.
 
-use std::env;
 use std::process::Command;
+use std::{env, thread};
 
 use crate::calls::Side;
 use crate::cases::Case;
@@ -24,8 +24,12 @@ impl Request {
         })
     }
 
+    /// Makes the calls in a thread: its stack starts at a page, wherever the arguments and the
+    /// environment leave that of the process, so that clearing an array there takes the same always.
     pub fn run(self) {
-        self.case.round().make(self.side);
+        let mut round = self.case.round();
+        let calls = thread::spawn(move || round.make(self.side));
+        calls.join().expect("the calls return");
     }
 }
 

@@ -274,9 +274,8 @@ pub fn preface(date: &str, processor: &Processor) -> Outcome<String> {
          - Library: {library}\n\
          - Yardstick, the Rust version written for speed (`independent::tuned`): {yardstick}.\n\
          - Native yardstick, the same built for this very processor: {native}.\n\n\
-         The instructions decide. They are those of one call, what it calls included, as callgrind counts them, and can differ by a few from one environment to another, \
-         by where the stack lies; the native yardstick's are not counted. A ratio is \
-         library / yardstick.\n\n\
+         The instructions decide. They are those of one call, what it calls included, as callgrind counts them, the same in every run; the native yardstick's are \
+         not counted. A ratio is library / yardstick.\n\n\
          Times are medians of {RUNS} runs, each in a process of its own, since where code and tables lie differs from process to process; behind a ratio stand \
          the least and the greatest of the runs. In a run both sides are called on the same tables, all calls of a section by turns; its times are medians of \
          {samples} samples a side, each the mean of calls that take about {sample} µs together, or of one round where different tables are called by turns. The native \
