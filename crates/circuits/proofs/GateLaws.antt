@@ -3,7 +3,7 @@ use Prim.Native.Nat.{ℕ, zero, suc, _+_, _*_, _/_, _%_, _≤_, _<_}
 use mathlib.Core.Path.{_≡_, refl, sym, ap, ap₂, _∙_}
 use mathlib.Core.Bool.{true}
 use mathlib.Core.List.{List, [], _∷_, _++_, append-assoc}
-use native.Mathlib.Nat.{add-assoc, add-zero}
+use native.Mathlib.Nat.{add-assoc, add-zero, mul-mod-left}
 use native.Mathlib.Numerals.{towards-suc}
 use native.Mathlib.Omega.{arith}
 use borrow.Author.Tests.{lt-ltb, le-ltb}
@@ -13,6 +13,7 @@ use Rattle.records.specs.Table.{recordAt, records}
 use Rattle.records.proofs.ClauseLaws.{Bytes}
 use Rattle.records.proofs.TableLaws.{recordAt-in}
 use Rattle.circuits.specs.Gate.{Gate, gateBytes, gatesBytes, gateOf, gateAt, spareOf, spareAt, gatesOf, over, withGates, gateWritten}
+use Rattle.circuits.specs.Inside.{fourBytes}
 use Rattle.records.proofs.ListLaws.{tabulate-members}
 
 -- one gate
@@ -99,13 +100,11 @@ over-over t start xs ys p =
     )
     (simp append-assoc)
 
--- eight stores in a row
-pub stores : (t : List ℕ) (start a b c d e f g h : ℕ) → start + 8 ≤ length t
-    → set (set (set (set (set (set (set (set t start a) (start + 1) b) (start + 2) c) (start + 3) d) (start + 4) e) (start + 5) f) (start + 6) g) (start + 7) h
-    ≡ over t start (a ∷ (b ∷ (c ∷ (d ∷ (e ∷ (f ∷ (g ∷ (h ∷ []))))))))
+-- four stores in a row
+pub stores : (t : List ℕ) (start a b c d : ℕ) → start + 4 ≤ length t
+    → set (set (set (set t start a) (start + 1) b) (start + 2) c) (start + 3) d ≡ over t start (a ∷ (b ∷ (c ∷ (d ∷ []))))
 unfolding over
-stores t start a b c d e f g h p =
-    simp towards-suc (simp (towards-suc, append-assoc) at (sets-eq (a ∷ b ∷ c ∷ d ∷ e ∷ f ∷ g ∷ h ∷ []) t start p))
+stores t start a b c d p = simp towards-suc (simp (towards-suc, append-assoc) at (sets-eq (a ∷ b ∷ c ∷ d ∷ []) t start p))
 
 -- gates written behind n gates
 pub length-withGates : (t : List ℕ) (n : ℕ) (gs : List Gate) → 8 * (n + length gs) ≤ length t → length (withGates t n gs) ≡ length t
@@ -136,6 +135,26 @@ rest-unchanged t gs =
     ap (drop (8 * length gs)) (over-start t (gatesBytes gs))
     ∙ drop-at (gatesBytes gs) (drop (0 + length (gatesBytes gs)) t) (8 * length gs) (length-gatesBytes gs)
     ∙ (let e : 0 + length (gatesBytes gs) ≡ 8 * length gs = omega (arith, length-gatesBytes gs) in ap (λ (n : ℕ). drop n t) e)
+
+-- a gate's bytes as two numbers of four
+gate-fours : (k l r : ℕ) → k < 256 → l < 65536 → r < 65536 → fourBytes (k + 65536 * l) ++ fourBytes r ≡ gateBytes (record { kind = k; left = l; right = r })
+gate-fours k l r a b c =
+    let kind : (k + 65536 * l) % 256 ≡ k = omega arith in
+    let above : (k + 65536 * l) / 256 ≡ l * 256 = omega arith in
+    let spare : (k + 65536 * l) / 256 % 256 ≡ 0 = ap (λ (n : ℕ). n % 256) above ∙ mul-mod-left l 256 in
+    let left : (k + 65536 * l) / 65536 ≡ l = omega arith in
+    let low : (k + 65536 * l) / 65536 % 256 ≡ l % 256 = ap (λ (n : ℕ). n % 256) left in
+    let high : (k + 65536 * l) / 16777216 ≡ l / 256 = omega arith in
+    let right : r / 256 % 256 ≡ r / 256 = omega arith in
+    let none : r / 65536 % 256 ≡ 0 = omega arith in
+    let last : r / 16777216 ≡ 0 = omega arith in
+    rw (kind, spare, low, high, right, none, last) refl
+
+pub written-fours : (t : List ℕ) (n k l r : ℕ) → k < 256 → l < 65536 → r < 65536 → 8 * n + 8 ≤ length t
+    → over (over t (8 * n) (fourBytes (k + 65536 * l))) (8 * n + 4) (fourBytes r) ≡ withGates t n (record { kind = k; left = l; right = r } ∷ [])
+unfolding gatesBytes
+written-fours t n k l r a b c p =
+    over-over t (8 * n) (fourBytes (k + 65536 * l)) (fourBytes r) (omega arith) ∙ ap (over t (8 * n)) (gate-fours k l r a b c)
 
 -- one gate written into a table: where there is room it is there, and else nothing changes
 pub written-in : (t : List ℕ) (k : ℕ) (g : Gate) → 8 * k + 8 ≤ length t → gateWritten t k g ≡ withGates t k (g ∷ [])

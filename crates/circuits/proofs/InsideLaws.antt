@@ -1,6 +1,7 @@
 -- The laws of the private pieces: additions in a row, the references of the inputs, one turn of the loop over the steps, and the check's answers.
 use Prim.Native.Nat.{ℕ, zero, suc, _+_, _*_, _≤_, _<_}
 use mathlib.Core.Path.{_≡_, refl, sym, ap, ap₂, _∙_}
+use mathlib.Core.Bool.{Bool, true, false, _&&_, true≢false}
 use mathlib.Core.List.{List, [], _∷_, _++_, append-assoc, append-nil}
 use native.Mathlib.Numerals.{add-one}
 use native.Mathlib.Omega.{arith}
@@ -21,7 +22,7 @@ use Rattle.circuits.specs.declared.building.Built.{Built}
 use Rattle.circuits.specs.declared.checking.Answer.{Answer}
 use Rattle.circuits.specs.Reference.{positive, negative}
 use Rattle.circuits.specs.Gate.{Gate, andGate, orGate, withGates}
-use Rattle.circuits.specs.Rule.{Rule, both, symmetric, symmetricRule}
+use Rattle.circuits.specs.Rule.{Rule, join, meet, both, symmetric, symmetricRule}
 use Rattle.circuits.specs.Build.{Added, Adding, plain, emit, Build, advanced, built, inputReferences, plainBuild}
 use Rattle.circuits.specs.Check.{Checked, refusal, plainAccepted, plainChecked, Checks}
 use Rattle.circuits.specs.Inside.{mentions, ruleBy, Adds, Turns, Buildable, StepsBuilt, Builds, Refuses}
@@ -55,6 +56,21 @@ pub adds-both : (add : Adding) (b : Builder) (t t₁ t₂ t₃ : List ℕ) (u v 
 unfolding emit
 adds-both add b t t₁ t₂ t₃ u v w p l r first second third k m =
     rw (← first .next, ← second .next, ← first .reference, ← second .reference, ← append-assoc) (adds-twice (adds-twice first second k) third m)
+
+-- the rule by whether a pivot occurs in both tables, and if not, by whether in A
+pub rule-both : (a b : Bool) → a && b ≡ true → symmetric a b ≡ both
+rule-both true true e = refl
+rule-both true false e = absurd (true≢false (sym e))
+rule-both false b e = absurd (true≢false (sym e))
+
+pub rule-join : (a b : Bool) → a && b ≡ false → a ≡ true → symmetric a b ≡ join
+rule-join true true e f = absurd (true≢false e)
+rule-join true false e f = refl
+rule-join false b e f = absurd (true≢false (sym f))
+
+pub rule-meet : (a b : Bool) → a ≡ false → symmetric a b ≡ meet
+rule-meet true b e = absurd (true≢false e)
+rule-meet false b e = refl
 
 -- the references of A, then some of B
 zeros : (a m : ℕ) → a ≤ m → take a (replicate {A = ℕ} m 0) ≡ replicate a 0

@@ -1,5 +1,5 @@
 -- What the private pieces ask and promise. No public contract speaks of these.
-use Prim.Native.Nat.{ℕ, _+_, _*_, _≤_, _<_}
+use Prim.Native.Nat.{ℕ, _+_, _*_, _/_, _%_, _≤_, _<_}
 use mathlib.Core.Path.{_≡_}
 use mathlib.Core.Bool.{Bool, _||_}
 use mathlib.Core.List.{List, [], _∷_}
@@ -21,6 +21,10 @@ mentions h all v = has all v || has all (8 * h + v)
 -- the symmetric rule by the records of the literals of A and of B
 unfoldable pub ruleBy : ℕ → List ℕ → List ℕ → ℕ → Rule
 ruleBy h of-a of-b v = symmetric (mentions h of-a v) (mentions h of-b v)
+
+-- the four bytes of a number below 2 ^ 32, little endian
+abbrev pub fourBytes : ℕ → List ℕ
+fourBytes n = n % 256 ∷ (n / 256 % 256 ∷ (n / 65536 % 256 ∷ (n / 16777216 ∷ [])))
 
 -- from builder b and table t to builder b′ and table t′ gate g is added
 pub record Puts (b : Builder) (t : List ℕ) (g : Gate) (b′ : Builder) (t′ : List ℕ) : Type 0 where

@@ -1,5 +1,5 @@
 // The build: the steps in order, "carrying the next free gate and the step number as one state".
-use crate::gates::write_gate;
+use crate::gates::put_gate;
 ghost use mathlib.Core.Path.{_≡_};
 ghost use Prim.Native.Nat.{_+_, _*_, _≤_, _<_};
 ghost use mathlib.Core.List.{[]};
@@ -35,7 +35,7 @@ impl Builder {
         ensures { λ r. ⌜ Puts self (now (gates .entry)) (record { kind = kind; left = left; right = right }) r (now (gates .exit)) ⌝ }
     {
         let next = self.next;
-        write_gate(gates, next, kind, left, right);
+        put_gate(gates, next, kind, left, right);
         self.next = next + 1;
         self
     }
@@ -60,8 +60,9 @@ impl Builder {
         Made { builder, reference }
     }
 
-    // The gates of a step whose antecedents have the references left and right, by where its pivot occurs: only in B AND, only in A
-    // OR, in both OR(xp, L), OR(not xp, R), and AND of those two.
+    // The gates of a step whose antecedents have the references left and right, by where its pivot occurs: in both OR(xp, L),
+    // OR(not xp, R), and AND of those two; only in A OR, only in B AND. Both are asked at once: asked one after the other, the compiler makes
+    // a jump of the eight cases of the bit test.
     fn resolve(
         self,
         gates: &mut [u8],
@@ -74,15 +75,15 @@ impl Builder {
         requires { ⌜ (8 * self .next + 24 ≤ length (now gates)) × (self .next < 4000) × (pivot < 256) ⌝ }
         ensures { λ r. ⌜ Adds self (now (gates .entry)) (emit (plain 256) (symmetric in_a in_b) (self .next) pivot left right) r (now (gates .exit)) ⌝ }
     {
-        if !in_a {
-            return self.emit(gates, 1, left, right);
+        if in_a & in_b {
+            let low = self.emit(gates, 2, 2 + 2 * pivot, left);
+            let high = low.builder.emit(gates, 2, 3 + 2 * pivot, right);
+            return high.builder.emit(gates, 1, low.reference, high.reference);
         }
-        if !in_b {
+        if in_a {
             return self.emit(gates, 2, left, right);
         }
-        let low = self.emit(gates, 2, 2 + 2 * pivot, left);
-        let high = low.builder.emit(gates, 2, 3 + 2 * pivot, right);
-        high.builder.emit(gates, 1, low.reference, high.reference)
+        self.emit(gates, 1, left, right)
     }
 
     // One step over the clauses with numbers left and right: its gates, and its reference kept for the clause with number own.

@@ -17,17 +17,13 @@ use Rattle.records.specs.Step.{stepAt, stepCount}
 use Rattle.records.specs.Tests.{firstFailed, refused, tableTests, roomTests, stepTests, rootTests}
 use Rattle.records.specs.Derivation.{inputs, clauseAt, workAfter, verdictAt, stopAt, stepsVerdict, rootOf, Outcome, judged, andThen, ran, rooted, derived, ByRule, Derivation, clauseCount, lastWork, Sizes}
 use Rattle.records.proofs.NumberLaws.{strong, in-parts}
-use Rattle.records.proofs.ListLaws.{first-le, first-holds, first-before, first-found}
+use Rattle.records.proofs.ListLaws.{first-le, first-holds, first-before, first-found, and-both}
 use Rattle.records.proofs.ClauseLaws.{holds-bound, holds-resolvent}
 use Rattle.records.proofs.TableLaws.{some-clause, which-clause, occurs-here}
 use Rattle.records.proofs.TestLaws.{passed-none, none-passed, pass-sizes, refused-not, not-refused, tables-numbered, room-numbered, step-numbered, root-numbered}
 use Rattle.records.proofs.DerivationLaws.{clause-a, clause-b, ends-at, verdict-stopped, verdict-ended}
 use Rattle.records.proofs.WorkLaws.{clause-kept, result-is}
 use Rattle.records.proofs.MeaningLaws.{empty-holds}
-
-and-both : (x y : Bool) → (x && y) ≡ true → (x ≡ true) × (y ≡ true)
-and-both true y e = (refl, e)
-and-both false y e = absurd (false≢true e)
 
 -- a step is by the rule where none of its tests fails, and only there
 module _ (h : ℕ) (clause : ℕ → List ℕ) (own i : ℕ) (s : Step) where

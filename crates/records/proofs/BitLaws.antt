@@ -6,7 +6,7 @@ use native.Mathlib.Nat.{zero-div, div-one, pow-suc}
 use native.Mathlib.Numerals.{one-add}
 use native.Mathlib.Omega.{arith}
 use borrow.Author.Tests.{ne-eqb}
-use lib.Dec.{eqb, eqb·zero-suc, eqb·suc-zero, eqb·suc-suc}
+use lib.Dec.{eqb}
 use lib.Pow.{shr-shr}
 use lib.Bits.{bitAnd, bitOr, and-step, or-step, and-shr, or-shr, and-mask}
 use Rattle.records.specs.Bits.{bitOf, digit, numberOf}
@@ -121,30 +121,6 @@ bits-ext m a b ha hb e = sym (numberOf-bits m a ha) ∙ numberOf-same m (bitOf a
 pub zero-bit : (k : ℕ) → bitOf 0 k ≡ false
 unfolding bitOf
 zero-bit k = rw zero-div refl
-
--- the bits of a complement, and of a power of two
-flip : (u : ℕ) → u < 2 → eqb (1 - u) 1 ≡ not (eqb u 1)
-flip = by-digit (λ (u : ℕ). eqb (1 - u) 1 ≡ not (eqb u 1)) refl refl
-
-pub bit-not : (m n k : ℕ) → n < 2 ^ m → k < m → bitOf ((2 ^ m - 1) - n) k ≡ not (bitOf n k)
-bit-not zero n k h l = absurd (omega arith)
-bit-not (suc m) n zero h l =
-    let e : ((2 ^ suc m - 1) - n) % 2 ≡ 1 - n % 2 = omega (arith, pow-suc 2 m) in
-    rw (bit-zero ((2 ^ suc m - 1) - n), bit-zero n, e) (flip (n % 2) (omega arith))
-bit-not (suc m) n (suc k) h l =
-    let e : ((2 ^ suc m - 1) - n) / 2 ≡ (2 ^ m - 1) - n / 2 = omega (arith, pow-suc 2 m) in
-    rw (bit-suc ((2 ^ suc m - 1) - n), bit-suc n, e) (bit-not m (n / 2) k (omega (arith, pow-suc 2 m)) (omega arith))
-
-pub bit-pow : (j k : ℕ) → bitOf (2 ^ j) k ≡ eqb k j
-unfolding bitOf
-bit-pow zero zero = refl
-bit-pow zero (suc k) = bit-suc 1 k ∙ zero-bit k ∙ sym (eqb·suc-zero k)
-bit-pow (suc j) zero =
-    let e : 2 ^ suc j % 2 ≡ 0 = omega (arith, pow-suc 2 j) in
-    bit-zero (2 ^ suc j) ∙ ap (λ (x : ℕ). eqb x 1) e ∙ sym (eqb·zero-suc j)
-bit-pow (suc j) (suc k) =
-    let e : 2 ^ suc j / 2 ≡ 2 ^ j = omega (arith, pow-suc 2 j) in
-    bit-suc (2 ^ suc j) k ∙ ap (λ (x : ℕ). bitOf x k) e ∙ bit-pow j k ∙ sym (eqb·suc-suc k j)
 
 -- a mask of one bit tests that bit
 nonzero : (u : ℕ) → u < 2 → not (eqb u 0) ≡ eqb u 1

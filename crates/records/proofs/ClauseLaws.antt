@@ -3,7 +3,7 @@ use Prim.Native.Nat.{ℕ, zero, suc, _+_, _-_, _*_, _/_, _%_, _^_, _≤_, _<_}
 use mathlib.Core.Path.{_≡_, refl, sym, ap, ap₂, subst, _∙_}
 use mathlib.Core.Bool.{Bool, true, false, not, _&&_, _||_, true≢false, and-false, and-true, cond}
 use mathlib.Core.List.{List, [], _∷_}
-use native.Mathlib.Nat.{lt-of-le-of-lt, lt-irrefl}
+use native.Mathlib.Nat.{lt-of-le-of-lt, lt-irrefl, mul-le-mul-left}
 use native.Mathlib.Decide.{decLt}
 use native.Mathlib.Omega.{arith}
 use borrow.Author.Tests.{eq-eqb, ne-eqb, eqb-true, eqb-false, lt-ltb, le-ltb, ltb-true, ltb-false}
@@ -11,14 +11,13 @@ use borrow.Author.Count.{below-more}
 use lib.Dec.{eqb, ltb}
 use lib.ListN.{length, getD, set, take, length-set, List·getD-eq-default}
 use lib.Seq.{ext-getD, getD-take, getD-set-same, getD-set-other}
-use lib.Pow.{pow-lt}
-use lib.Bits.{bitAnd, bitOr, bitXor, and-le-l, and-le-r, or-lt, or-add-and, or-zero-r, xor-lt, xor-self, xor-add-and}
+use lib.Bits.{bitAnd, bitOr, and-le-l, or-lt}
 use Rattle.records.specs.Bits.{bitOf, numberOf}
 use Rattle.records.specs.Lists.{every}
 use Rattle.records.specs.Clause.{has, literal, holds, bytesOf, without, resolved, resolvent, resolvedInto, empty}
-use Rattle.records.specs.Inside.{allBut, maskWithout, positiveByte, negativeByte, joined}
-use Rattle.records.proofs.BitLaws.{bit-and, bit-or, bit-numberOf, numberOf-lt, numberOf-same, bits-ext, zero-bit, bit-not, bit-pow, test-bit}
-use Rattle.records.proofs.ListLaws.{length-tabulate, getD-tabulate}
+use Rattle.records.specs.Inside.{allBut, Masks, maskStart, maskWithout, positiveByte, negativeByte, joined}
+use Rattle.records.proofs.BitLaws.{bit-and, bit-or, bit-numberOf, numberOf-lt, numberOf-same, bits-ext, zero-bit, test-bit}
+use Rattle.records.proofs.ListLaws.{length-tabulate, getD-tabulate, holdsFrom, holds-all}
 
 -- every element is a byte
 abbrev pub Bytes : List ℕ → Type 0
@@ -87,16 +86,6 @@ pub mask-has : (r : List ℕ) (l mask : ℕ) → mask ≡ 2 ^ (l % 8) → not (e
 unfolding has
 mask-has r l mask e = ap (λ (m : ℕ). not (eqb (bitAnd (getD r (l / 8) 0) m) 0)) e ∙ test-bit (getD r (l / 8) 0) (l % 8)
 
--- the mask of every bit but one
-pub all-but-mask : (k : ℕ) → k < 8 → 255 - 1 * 2 ^ k % 256 ≡ allBut k
-unfolding allBut
-all-but-mask k l =
-    let power : 2 ^ k < 2 ^ 8 = pow-lt {j = 8} (omega arith) in
-    let plain : 1 * 2 ^ k % 256 ≡ 2 ^ k = omega arith in
-    rw plain
-    (bits-ext 8 (255 - 2 ^ k) (numberOf 8 (λ j. not (eqb j k))) (omega arith) (numberOf-lt 8 (λ j. not (eqb j k)))
-    (λ j m. bit-not 8 (2 ^ k) j power m ∙ ap not (bit-pow k j) ∙ sym (bit-numberOf 8 (λ j. not (eqb j k)) j m)))
-
 -- two tests that say the same
 same-test : (a b c d : ℕ) → (a ≡ b → c ≡ d) → (c ≡ d → a ≡ b) → eqb a b ≡ eqb c d
 same-test a b c d f g = go (eqb a b) refl
@@ -116,20 +105,42 @@ bit-mask x i k l = go (eqb i (x / 8)) refl
         bit-numberOf 8 (λ j. not (eqb j (x % 8))) k l ∙ ap not (same-test k (x % 8) (8 * i + k) x (λ q. omega arith) (λ q. omega arith))
     go false e = bit-numberOf 8 (λ j. true) k l ∙ sym (ap not (ne-eqb (8 * i + k) x (λ q. eqb-false i (x / 8) e (omega arith))))
 
--- as the code computes it
-pub mask-computed : (at keep i : ℕ) → at < 128 → i < 128 → keep < 256 → bitOr keep ((bitXor i at + 127) / 128 * 255) ≡ cond (eqb i at) keep 255
-mask-computed at keep i a l k = go (eqb i at) refl
+-- the masks, by their rule
+abbrev pub maskHolds : ℕ → ℕ → Bool
+maskHolds n byte = eqb byte (cond (eqb (n % 32) 31 && ltb n 256) (allBut (n / 32)) 255)
+
+pub masks-are : (masks : List ℕ) → length masks ≡ 288 → holdsFrom maskHolds 0 masks ≡ true → Masks 32 masks
+masks-are masks size e =
+    record {
+      size = size;
+      byte =
+          λ k x l m.
+          let tested = holds-all maskHolds 0 masks e (32 * k + x) (omega arith) in
+          eqb-true (getD masks (32 * k + x) 0) _ tested ∙ which k x l m (eqb x 31) refl;
+    }
   where
-    go : (b : Bool) → eqb i at ≡ b → bitOr keep ((bitXor i at + 127) / 128 * 255) ≡ cond b keep 255
-    go true e =
-        let same : bitXor i at ≡ 0 = ap (λ (x : ℕ). bitXor x at) (eqb-true i at e) ∙ xor-self at in
-        let none : (bitXor i at + 127) / 128 * 255 ≡ 0 = omega arith in
-        ap (bitOr keep) none ∙ or-zero-r keep
-    go false e =
-        let apart = eqb-false i at e in
-        let least : (bitXor i at ≡ 0 → ⊥) = λ z. apart (omega (arith, xor-add-and i at, and-le-l i at, and-le-r i at)) in
-        let all : (bitXor i at + 127) / 128 * 255 ≡ 255 = omega (arith, least, xor-lt 7 i at l a) in
-        ap (bitOr keep) all ∙ (omega (arith, or-lt 8 keep 255 k (omega arith), or-add-and keep 255, and-le-l keep 255))
+    which : (k x : ℕ) → k < 8 → x < 63 → (b : Bool) → eqb x 31 ≡ b
+        → cond (eqb ((32 * k + x) % 32) 31 && ltb (32 * k + x) 256) (allBut ((32 * k + x) / 32)) 255 ≡ cond b (allBut k) 255
+    which k x l m true e =
+        let here = eqb-true x 31 e in
+        let bit : (32 * k + x) / 32 ≡ k = omega (arith, here) in
+        rw (eq-eqb ((32 * k + x) % 32) 31 (omega (arith, here)), lt-ltb (32 * k + x) 256 (omega (arith, here)), bit) refl
+    which k x l m false e =
+        let elsewhere = eqb-false x 31 e in
+        rw (ne-eqb ((32 * k + x) % 32) 31 (λ q. elsewhere (omega arith))) refl
+
+-- a mask is in the strip, and each of its bytes is the one that takes the literal out
+pub mask-within : (h x i : ℕ) → x < 8 * h → i < h → maskStart h x + i < 9 * h
+unfolding maskStart
+mask-within h x i l k = omega (arith, mul-le-mul-left {m = x % 8} {n = 7} h (omega arith))
+
+pub mask-byte : (h : ℕ) (masks : List ℕ) (x i : ℕ) → Masks h masks → x < 8 * h → i < h → getD masks (maskStart h x + i) 0 ≡ maskWithout x i
+unfolding maskWithout maskStart
+mask-byte h masks x i m l k =
+    let at : h * (x % 8) + (h - 1 - x / 8) + i ≡ h * (x % 8) + (h - 1 - x / 8 + i) = omega arith in
+    ap (λ (n : ℕ). getD masks n 0) at
+    ∙ m .byte (x % 8) (h - 1 - x / 8 + i) (omega arith) (omega arith)
+    ∙ ap (λ (b : Bool). cond b (allBut (x % 8)) 255) (same-test (h - 1 - x / 8 + i) (h - 1) i (x / 8) (λ e. omega arith) (λ e. omega arith))
 
 -- a record's byte i by that mask
 pub masked-lt : (byte mask : ℕ) → byte < 256 → bitAnd byte mask < 256
@@ -238,9 +249,26 @@ pub holds-has : (h : ℕ) (r : List ℕ) (sign : Bool) (v : ℕ) → v < 8 * h �
 unfolding holds
 holds-has h r sign v l = rw (lt-ltb v (8 * h) l) refl
 
--- as a bit test answers
-pub holds-tested : (h : ℕ) (r : List ℕ) (sign : Bool) (v : ℕ) (answer b : Bool) → v < 8 * h → answer ≡ has r (literal h sign v) → answer ≡ b → holds h r sign v ≡ b
-holds-tested h r sign v answer b l e q = holds-has h r sign v l ∙ sym e ∙ q
+-- a literal's bit by the mask of its variable's bit, in the byte that has it
+literal-bit : (h : ℕ) (sign : Bool) (v : ℕ) → v % 8 ≡ literal h sign v % 8
+literal-bit h true v = refl
+literal-bit h false v = omega arith
+
+masked-bit : (h : ℕ) (r : List ℕ) (sign : Bool) (v at mask : ℕ) (b : Bool) → v < 8 * h → mask ≡ 2 ^ (v % 8) → at ≡ literal h sign v / 8
+    → eqb (bitAnd (getD r at 0) mask) 0 ≡ b → holds h r sign v ≡ not b
+masked-bit h r sign v at mask b l m p e =
+    holds-has h r sign v l
+    ∙ sym (mask-has r (literal h sign v) mask (m ∙ ap (λ (k : ℕ). 2 ^ k) (literal-bit h sign v)))
+    ∙ ap (λ (n : ℕ). not (eqb (bitAnd (getD r n 0) mask) 0)) (sym p)
+    ∙ ap not e
+
+pub lacks-masked : (h : ℕ) (r : List ℕ) (sign : Bool) (v at mask : ℕ) → v < 8 * h → mask ≡ 2 ^ (v % 8) → at ≡ literal h sign v / 8
+    → bitAnd (getD r at 0) mask ≡ 0 → holds h r sign v ≡ false
+lacks-masked h r sign v at mask l m p z = masked-bit h r sign v at mask true l m p (eq-eqb (bitAnd (getD r at 0) mask) 0 z)
+
+pub holds-masked : (h : ℕ) (r : List ℕ) (sign : Bool) (v at mask : ℕ) → v < 8 * h → mask ≡ 2 ^ (v % 8) → at ≡ literal h sign v / 8
+    → (bitAnd (getD r at 0) mask ≡ 0 → ⊥) → holds h r sign v ≡ true
+holds-masked h r sign v at mask l m p n = masked-bit h r sign v at mask false l m p (ne-eqb (bitAnd (getD r at 0) mask) 0 n)
 
 pub holds-past : (h : ℕ) (r : List ℕ) (sign : Bool) (v : ℕ) → 8 * h ≤ v → holds h r sign v ≡ false
 unfolding holds

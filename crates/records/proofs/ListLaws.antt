@@ -3,6 +3,7 @@ use Prim.Native.Nat.{ℕ, zero, suc, _+_, _-_, _≤_, _<_}
 use mathlib.Core.Path.{_≡_, refl, sym, ap, ap₂, _∙_, subst}
 use mathlib.Core.List.{List, [], _∷_, _++_}
 use mathlib.Core.Bool.{Bool, true, false, _&&_, _||_, cond, true≢false, or-true, or-false, or-assoc}
+use native.Mathlib.Nat.{zero-add}
 use native.Mathlib.Numerals.{add-one}
 use native.Mathlib.Decide.{decLt}
 use native.Mathlib.Omega.{arith}
@@ -132,6 +133,27 @@ every-at p (suc n) f e k l = go (p (f 0)) refl e k l (every-at p n (λ i. f (suc
     go true q h zero m rec = q
     go true q h (suc k) m rec = rec h k (omega arith)
     go false q h k m rec = absurd (true≢false (sym h))
+
+-- a test of each member of a list and its place, counted from i, so that the list is computed once
+pub and-both : (x y : Bool) → (x && y) ≡ true → (x ≡ true) × (y ≡ true)
+and-both true y e = (refl, e)
+and-both false y e = absurd (true≢false (sym e))
+
+abbrev pub holdsFrom : {A : Type 0} → (ℕ → A → Bool) → ℕ → List A → Bool
+holdsFrom p i [] = true
+holdsFrom p i (x ∷ xs) = p i x && holdsFrom p (suc i) xs
+
+holds-at : {A : Type 0} (p : ℕ → A → Bool) (d : A) (xs : List A) (i : ℕ) → holdsFrom p i xs ≡ true → (k : ℕ) → k < length xs → p (i + k) (getD xs k d) ≡ true
+holds-at p d [] i e k l = absurd (omega arith)
+holds-at p d (x ∷ xs) i e zero l =
+    let here : i ≡ i + zero = omega arith in
+    subst (λ (j : ℕ). p j x ≡ true) here (and-both (p i x) (holdsFrom p (suc i) xs) e .0)
+holds-at p d (x ∷ xs) i e (suc k) l =
+    let there : suc i + k ≡ i + suc k = omega arith in
+    subst (λ (j : ℕ). p j (getD xs k d) ≡ true) there (holds-at p d xs (suc i) (and-both (p i x) (holdsFrom p (suc i) xs) e .1) k (omega arith))
+
+pub holds-all : {A : Type 0} (p : ℕ → A → Bool) (d : A) (xs : List A) → holdsFrom p 0 xs ≡ true → (k : ℕ) → k < length xs → p k (getD xs k d) ≡ true
+holds-all p d xs e k l = subst (λ (j : ℕ). p j (getD xs k d) ≡ true) (zero-add k) (holds-at p d xs 0 e k l)
 
 -- one member more
 pub some-snoc : {A : Type 0} (p : A → Bool) (n : ℕ) (f : ℕ → A) → some p (tabulate (n + 1) f) ≡ (some p (tabulate n f) || p (f n))

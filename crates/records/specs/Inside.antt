@@ -1,5 +1,5 @@
 -- What the private pieces ask and promise. No public contract speaks of these.
-use Prim.Native.Nat.{ℕ, _+_, _*_, _/_, _%_, _≤_, _<_}
+use Prim.Native.Nat.{ℕ, _+_, _-_, _*_, _/_, _%_, _≤_, _<_}
 use mathlib.Core.Path.{_≡_}
 use mathlib.Core.Bool.{Bool, true, false, not, cond}
 use mathlib.Core.List.{List}
@@ -21,6 +21,16 @@ allBut k = numberOf 8 (λ j. not (eqb j k))
 -- "masks remove the pivot's literals and join two clauses, byte by byte, in both halves of a record": the mask of byte i that takes literal x out
 unfoldable pub maskWithout : ℕ → ℕ → ℕ
 maskWithout x i = cond (eqb i (x / 8)) (allBut (x % 8)) 255
+
+-- the masks of all literals of a half in one strip of 9h bytes: from byte h * k on, byte h - 1 has every bit but k, and all others have all bits. A
+-- window of h bytes that starts up to h - 1 before that byte is the mask of one literal
+pub record Masks (h : ℕ) (masks : List ℕ) : Type 0 where
+  pub size : length masks ≡ 9 * h
+  pub byte : (k x : ℕ) → k < 8 → x < 2 * h - 1 → getD masks (h * k + x) 0 ≡ cond (eqb x (h - 1)) (allBut k) 255
+
+-- where the mask starts that takes literal x out
+unfoldable pub maskStart : ℕ → ℕ → ℕ
+maskStart h x = h * (x % 8) + (h - 1 - x / 8)
 
 -- byte i of the positive half: left without the pivot's literal, joined with right; of the negative half, the other way round
 unfoldable pub positiveByte : List ℕ → List ℕ → ℕ → ℕ → ℕ

@@ -1,14 +1,12 @@
 // Clause records: the bit test, and the resolvent of two of them.
 ghost use mathlib.Core.Path.{_≡_};
 ghost use Prim.Native.Nat.{_*_, _^_, _<_, _≤_};
-ghost use mathlib.Core.Bool.{cond};
-ghost use lib.Dec.{eqb};
 ghost use lib.ListN.{length};
 ghost use Rattle.records.specs.Clause.{has, resolvent, resolvedInto};
-ghost use Rattle.records.specs.Inside.{allBut};
+ghost use Rattle.records.specs.Inside.{Masks, maskStart};
 
 // The byte that has bit k and no other, in eight cases.
-fn mask_of(k: usize) -> u8
+pub(crate) fn mask_of(k: usize) -> u8
     requires { ⌜ k < 8 ⌝ }
     ensures { λ r. ⌜ r ≡ 2 ^ k ⌝ }
 {
@@ -37,38 +35,50 @@ pub fn has_literal(clause: &[u8], literal: usize) -> bool
     clause[at] & mask != 0
 }
 
-// The byte that has every bit but k.
-fn all_but(k: usize) -> u8
-    requires { ⌜ k < 8 ⌝ }
-    ensures { λ r. ⌜ r ≡ allBut k ⌝ }
+// The masks of all literals of a half, in one strip: from byte 32 * k on, byte 31 has every bit but k, and all others have all bits. The mask
+// that takes bit k out of byte `at` is the 32 bytes from 32 * k + 31 - at on, so that none of its bytes is computed in a step.
+pub(crate) fn all_masks() -> [u8; 288]
+    ensures { λ r. ⌜ Masks 32 r ⌝ }
 {
-    let bit = k as u8;
-    !(1u8 << bit)
+    let mut masks = [255u8; 288];
+    masks[31] = 254;
+    masks[63] = 253;
+    masks[95] = 251;
+    masks[127] = 247;
+    masks[159] = 239;
+    masks[191] = 223;
+    masks[223] = 191;
+    masks[255] = 127;
+    masks
 }
 
-// The mask of byte i of a side that loses a bit of the byte `at`: `keep` for that byte, all bits for every other. It is computed, and in
-// numbers of one byte, so that the compiler makes the masks of sixteen bytes at once: of a test it would make wider numbers.
-fn mask_at(at: usize, keep: u8, i: usize) -> u8
-    requires { ⌜ (at < 128) × (i < 128) ⌝ }
-    ensures { λ r. ⌜ r ≡ cond (eqb i at) keep 255 ⌝ }
+// Where in the strip the mask starts that takes the pivot's bit out.
+fn mask_start(half: usize, pivot: usize) -> usize
+    requires { ⌜ (half ≤ 64) × (pivot < 8 * half) ⌝ }
+    ensures { λ r. ⌜ r ≡ maskStart half pivot ⌝ }
 {
-    let apart = (i as u8) ^ (at as u8);
-    let other = (apart + 127) / 128;
-    keep | (other * 255)
+    half * (pivot % 8) + (half - 1 - pivot / 8)
 }
 
 // The resolvent of two records with half bytes for each sign, which left and right begin with, written to the part: byte by byte, in both
 // halves, the pivot's literal is masked out of the side that loses it, and the sides are joined. Each byte is written once: one that is
 // mended after wide stores keeps the next step waiting for it.
-pub(crate) fn resolve_halves(half: usize, left: &[u8], right: &[u8], pivot: usize, part: &mut [u8])
-    requires { ⌜ (half ≤ 64) × (pivot < 8 * half) × (2 * half ≤ length (now left)) × (2 * half ≤ length (now right)) × (length (now part) ≡ 2 * half) ⌝ }
+pub(crate) fn resolve_halves(
+    half: usize,
+    left: &[u8],
+    right: &[u8],
+    pivot: usize,
+    masks: &[u8],
+    part: &mut [u8],
+)
+    requires { ⌜ (half ≤ 64) × (pivot < 8 * half) × Masks half (now masks) ⌝ }
+    requires { ⌜ (2 * half ≤ length (now left)) × (2 * half ≤ length (now right)) × (length (now part) ≡ 2 * half) ⌝ }
     ensures { λ r. ⌜ now (part .exit) ≡ resolvent half (now (left .entry)) (now (right .entry)) pivot ⌝ }
 {
-    let at = pivot / 8;
-    let keep = all_but(pivot % 8);
+    let from = mask_start(half, pivot);
     let mut i: usize = 0;
     while i < half {
-        let mask = mask_at(at, keep, i);
+        let mask = masks[from + i];
         part[i] = (left[i] & mask) | right[i];
         let j = half + i;
         part[j] = left[j] | (right[j] & mask);
@@ -82,6 +92,7 @@ pub fn resolve(left: &[u8; 64], right: &[u8; 64], pivot: u8, part: &mut [u8])
     ensures { λ r. ⌜ now (part .exit) ≡ resolvedInto 32 (now (left .entry)) (now (right .entry)) pivot (now (part .entry)) ⌝ }
 {
     if part.len() == 64 {
-        resolve_halves(32, left, right, pivot as usize, part);
+        let masks = all_masks();
+        resolve_halves(32, left, right, pivot as usize, &masks, part);
     }
 }

@@ -1,7 +1,8 @@
 // The derivation: the steps in order, each resolvent straight into its own record of the work table, and then the root.
 //
 // The pieces take the half, so that they serve records of up to 128 bytes; `derive` fixes it.
-use crate::clauses::has_literal;
+use crate::clauses::all_masks;
+use crate::clauses::mask_of;
 use crate::clauses::resolve_halves;
 use crate::steps::Step;
 use crate::steps::read_step;
@@ -16,7 +17,7 @@ ghost use lib.ListN.{length, take};
 ghost use Rattle.records.specs.Table.{records};
 ghost use Rattle.records.specs.Step.{stepAt, stepCount};
 ghost use Rattle.records.specs.Derivation.{inputs, clauseAt, rootOf, andThen, ran, rooted, derived, Derives};
-ghost use Rattle.records.specs.Inside.{Sized, OrderTested, PivotTaken, StepResolved, StepTaken};
+ghost use Rattle.records.specs.Inside.{Masks, Sized, OrderTested, PivotTaken, StepResolved, StepTaken};
 
 // A copy of clause k, one of those that are there, in the first bytes of the part.
 fn fetch(half: usize, a: &[u8], b: &[u8], work: &[u8], k: usize, part: &mut [u8; 128])
@@ -54,28 +55,31 @@ fn test_order(spare: bool, left: usize, right: usize, own: usize) -> usize
     0
 }
 
-// Tests 9 and 10 on the antecedents, and then the resolvent: the number of the refusal, or 0 and the resolvent in the part.
+// Tests 9 and 10 on the antecedents, by one mask, and then the resolvent: the number of the refusal, or 0 and the resolvent in the part.
 fn resolve_tested(
     half: usize,
     left: &[u8; 128],
     right: &[u8; 128],
     pivot: usize,
+    masks: &[u8],
     part: &mut [u8],
 ) -> usize
-    requires { ⌜ (half ≤ 64) × (length (now part) ≡ 2 * half) ⌝ }
+    requires { ⌜ (half ≤ 64) × (length (now part) ≡ 2 * half) × (length (now left) ≡ 128) × (length (now right) ≡ 128) × Masks half (now masks) ⌝ }
     ensures { λ r. ⌜ PivotTaken half (now (left .entry)) (now (right .entry)) pivot (now (part .entry)) (now (part .exit)) r ⌝ }
 {
     let variables = 8 * half;
     if variables <= pivot {
         return 9;
     }
-    if !has_literal(left, pivot) {
+    let at = pivot / 8;
+    let mask = mask_of(pivot % 8);
+    if left[at] & mask == 0 {
         return 9;
     }
-    if !has_literal(right, variables + pivot) {
+    if right[half + at] & mask == 0 {
         return 10;
     }
-    resolve_halves(half, left, right, pivot, part);
+    resolve_halves(half, left, right, pivot, masks, part);
     0
 }
 
@@ -90,13 +94,14 @@ fn resolve_step(
     right: usize,
     pivot: usize,
     i: usize,
+    masks: &[u8],
     work: &mut [u8],
     first: &mut [u8; 128],
     second: &mut [u8; 128],
 ) -> usize
     requires { ⌜ Sized half (now a) (now b) (now work) (i + 1) ⌝ }
     requires { ⌜ (left < inputs half (now a) (now b) + i) × (right < inputs half (now a) (now b) + i) ⌝ }
-    requires { ⌜ (length (now first) ≡ 128) × (length (now second) ≡ 128) ⌝ }
+    requires { ⌜ (length (now first) ≡ 128) × (length (now second) ≡ 128) × Masks half (now masks) ⌝ }
     ensures { λ r. ⌜ StepResolved half (now (a .entry)) (now (b .entry)) left right pivot i (now (work .entry)) (now (work .exit)) r × (length (now (first .exit)) ≡ 128) × (length (now (second .exit)) ≡ 128) ⌝ }
 {
     fetch(half, a, b, work, left, first);
@@ -104,7 +109,7 @@ fn resolve_step(
     let size = 2 * half;
     let start = size * i;
     let end = start + size;
-    resolve_tested(half, first, second, pivot, &mut work[start..end])
+    resolve_tested(half, first, second, pivot, masks, &mut work[start..end])
 }
 
 // Step i, whose own clause number is own: the number of its refusal, or 0 and its resolvent in its own record. The antecedents are
@@ -116,13 +121,14 @@ fn take_step(
     own: usize,
     step: Step,
     i: usize,
+    masks: &[u8],
     work: &mut [u8],
     first: &mut [u8; 128],
     second: &mut [u8; 128],
 ) -> usize
     requires { ⌜ Sized half (now a) (now b) (now work) (i + 1) ⌝ }
     requires { ⌜ own ≡ inputs half (now a) (now b) + i ⌝ }
-    requires { ⌜ (length (now first) ≡ 128) × (length (now second) ≡ 128) ⌝ }
+    requires { ⌜ (length (now first) ≡ 128) × (length (now second) ≡ 128) × Masks half (now masks) ⌝ }
     ensures { λ r. ⌜ StepTaken half (now (a .entry)) (now (b .entry)) step i (now (work .entry)) (now (work .exit)) r × (length (now (first .exit)) ≡ 128) × (length (now (second .exit)) ≡ 128) ⌝ }
 {
     let spare = step.spare;
@@ -133,13 +139,32 @@ fn take_step(
     if number != 0 {
         return number;
     }
-    resolve_step(half, a, b, left, right, pivot, i, work, first, second)
+    resolve_step(
+        half,
+        a,
+        b,
+        left,
+        right,
+        pivot,
+        i,
+        masks,
+        work,
+        first,
+        second,
+    )
 }
 
 // All steps in order up to the first that fails. The two arrays for the antecedents' copies serve every step, so that they are
 // cleared once.
-fn run_steps(half: usize, a: &[u8], b: &[u8], steps: &[u8], work: &mut [u8]) -> Verdict
-    requires { ⌜ Sized half (now a) (now b) (now work) (stepCount (now steps)) ⌝ }
+fn run_steps(
+    half: usize,
+    a: &[u8],
+    b: &[u8],
+    steps: &[u8],
+    masks: &[u8],
+    work: &mut [u8],
+) -> Verdict
+    requires { ⌜ Sized half (now a) (now b) (now work) (stepCount (now steps)) × Masks half (now masks) ⌝ }
     ensures { λ r. ⌜ Derives (ran half (now (a .entry)) (now (b .entry)) (stepAt (now (steps .entry))) (stepCount (now (steps .entry))) (now (work .entry))) (now (work .exit)) r ⌝ }
 {
     let size = 2 * half;
@@ -150,7 +175,18 @@ fn run_steps(half: usize, a: &[u8], b: &[u8], steps: &[u8], work: &mut [u8]) -> 
     let mut i: usize = 0;
     while i < n {
         let step = read_step(steps, i);
-        let number = take_step(half, a, b, own + i, step, i, work, &mut first, &mut second);
+        let number = take_step(
+            half,
+            a,
+            b,
+            own + i,
+            step,
+            i,
+            masks,
+            work,
+            &mut first,
+            &mut second,
+        );
         if number != 0 {
             return Verdict { number, place: i };
         }
@@ -182,11 +218,18 @@ fn find_root(half: usize, a: &[u8], b: &[u8], work: &[u8], n: usize) -> usize
 }
 
 // The steps, and then the root: 7 to 11, or 0 and the root's clause number.
-fn derive_halves(half: usize, a: &[u8], b: &[u8], steps: &[u8], work: &mut [u8]) -> Verdict
-    requires { ⌜ Sized half (now a) (now b) (now work) (stepCount (now steps)) ⌝ }
+fn derive_halves(
+    half: usize,
+    a: &[u8],
+    b: &[u8],
+    steps: &[u8],
+    masks: &[u8],
+    work: &mut [u8],
+) -> Verdict
+    requires { ⌜ Sized half (now a) (now b) (now work) (stepCount (now steps)) × Masks half (now masks) ⌝ }
     ensures { λ r. ⌜ Derives (andThen (ran half (now (a .entry)) (now (b .entry)) (stepAt (now (steps .entry))) (stepCount (now (steps .entry))) (now (work .entry))) (rooted half (now (a .entry)) (now (b .entry)) (stepCount (now (steps .entry))))) (now (work .exit)) r ⌝ }
 {
-    let ran = run_steps(half, a, b, steps, work);
+    let ran = run_steps(half, a, b, steps, masks, work);
     let number = ran.number;
     if number != 0 {
         return ran;
@@ -221,5 +264,6 @@ pub fn derive(a: &[u8], b: &[u8], steps: &[u8], work: &mut [u8]) -> Verdict
     if of_room != 0 {
         return room;
     }
-    derive_halves(32, a, b, steps, work)
+    let masks = all_masks();
+    derive_halves(32, a, b, steps, &masks, work)
 }

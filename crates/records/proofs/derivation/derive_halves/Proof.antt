@@ -12,8 +12,9 @@ same-length c = search needs
 
 returns : tie.Need-returns
 returns c =
+    let if1 = c .if1 in
     let run-steps = c .before .before .before .run-steps in
-    derives-refused _ _ _ (run-steps .ensures) _ (c .if1 .taken)
+    derives-refused _ _ _ (run-steps .ensures) _ (if1 .taken)
 
 mul-size : tie.Need-mul-size
 mul-size c = search needs
@@ -38,20 +39,22 @@ same-length-2 c = search needs
 
 returns-2 : tie.Need-returns-2
 returns-2 c =
+    let if2 = c .if2 in
     let run-steps = c .before .before .before .before .before .before .run-steps in
     let if1 = c .before .before .before .if1 in
     let find-root = c .before .find-root in
-    derives-next _ _ _ (run-steps .ensures) _ (if1 .left) _ _ (root-found _ _ _ _ _ _ (find-root .ensures) (c .if2 .taken))
+    derives-next _ _ _ (run-steps .ensures) _ (if1 .left) _ _ (root-found _ _ _ _ _ _ (find-root .ensures) (if2 .taken))
 
 same-length-3 : tie.Need-same-length-3
 same-length-3 c = search needs
 
 returns-3 : tie.Need-returns-3
 returns-3 c =
+    let if2 = c .if2 in
     let run-steps = c .before .before .before .before .before .before .run-steps in
     let if1 = c .before .before .before .if1 in
     let find-root = c .before .find-root in
-    derives-next _ _ _ (run-steps .ensures) _ (if1 .left) _ _ (root-missing _ _ _ _ _ _ (find-root .ensures) (c .if2 .left))
+    derives-next _ _ _ (run-steps .ensures) _ (if1 .left) _ _ (root-missing _ _ _ _ _ _ (find-root .ensures) (if2 .left))
 
 pub derive-halves-spec : {M : Type 1} → statement M
 derive-halves-spec =

@@ -13,14 +13,14 @@ use Rattle.records.proofs.derivation.resolve_step.Tie as tie
 
 fetch-requires : tie.Need-fetch-requires
 fetch-requires c κs =
-    let args = c .before .before .before .before .before .args in
-    let pre = c .before .before .before .before .before .pre in
+    let args = c .before .before .before .before .before .before .args in
+    let pre = c .before .before .before .before .before .before .pre in
     (omega arith, omega arith, omega (arith, records-room (2 * args .half) (args .work .now) (args .i + 1) (omega arith) (pre .0 .room)), pre .1 .1 .0)
 
 fetch-requires-2 : tie.Need-fetch-requires-2
 fetch-requires-2 c κs =
-    let args = c .before .before .before .before .before .before .before .before .args in
-    let pre = c .before .before .before .before .before .before .before .before .pre in
+    let args = c .before .before .before .before .before .before .before .before .before .args in
+    let pre = c .before .before .before .before .before .before .before .before .before .pre in
     (omega arith, omega arith, omega (arith, records-room (2 * args .half) (args .work .now) (args .i + 1) (omega arith) (pre .0 .room)), pre .1 .1 .1)
 
 mul-size : tie.Need-mul-size
@@ -42,15 +42,19 @@ part-resolve-tested-end : tie.Need-part-resolve-tested-end
 part-resolve-tested-end c = search needs
 
 resolve-tested-requires : tie.Need-resolve-tested-requires
-resolve-tested-requires c κs = search needs
+resolve-tested-requires c κs =
+    let fetch = c .before .before .before .before .before .before .fetch in
+    let fetch2 = c .before .before .before .fetch2 in
+    let pre = c .before .before .before .before .before .before .before .before .before .before .before .before .before .pre in
+    (omega arith, search needs, fetch .ensures .1, fetch2 .ensures .1, pre .1 .1 .2)
 
 same-length : tie.Need-same-length
 same-length c = search needs
 
 returns : tie.Need-returns
 returns c =
-    let args = c .before .before .before .before .before .before .before .before .before .before .before .before .before .before .before .args in
-    let pre = c .before .before .before .before .before .before .before .before .before .before .before .before .before .before .before .pre in
+    let args = c .before .before .before .before .before .before .before .before .before .before .before .before .before .before .before .before .args in
+    let pre = c .before .before .before .before .before .before .before .before .before .before .before .before .before .before .before .before .pre in
     let fetch = c .before .before .before .before .before .before .before .before .before .fetch in
     let fetch2 = c .before .before .before .before .before .before .fetch2 in
     let resolve-tested = c .before .before .resolve-tested in

@@ -16,7 +16,7 @@ use Rattle.records.proofs.derivation.run_steps.Statement.{statement}
 use Rattle.records.proofs.derivation.run_steps.Tie as tie
 
 abbrev Inv-loop : tie.InvT-loop
-Inv-loop half a b steps work₀ size own n first₀ second₀ i₀ work first second i =
+Inv-loop half a b steps masks work₀ size own n first₀ second₀ i₀ work first second i =
     (i ≤ n)
     × (length work ≡ length work₀)
     × (length first ≡ 128)
@@ -25,7 +25,7 @@ Inv-loop half a b steps work₀ size own n first₀ second₀ i₀ work first se
     × ((k : ℕ) → k < i → refused (verdictAt half a b (stepAt steps) work₀ k) ≡ false)
 
 abbrev μ-loop : tie.MeasureT-loop
-μ-loop half a b steps work₀ size own n first₀ second₀ i₀ work first second i = n - i
+μ-loop half a b steps masks work₀ size own n first₀ second₀ i₀ work first second i = n - i
 
 mul-size : tie.Need-mul-size Inv-loop μ-loop
 mul-size c = omega arith
@@ -51,17 +51,17 @@ add-take-step c = omega arith
 
 take-step-requires : tie.Need-take-step-requires Inv-loop μ-loop
 take-step-requires c κs =
-    let args = c .before .before .before .before .before .before .before .before .before .before .args in
+    let args = c .before .before .before .before .before .before .before .before .before .before .before .args in
     let loop = c .before .before .before .before .before .loop in
-    let pre = c .before .before .before .before .before .before .before .before .before .before .pre in
+    let pre = c .before .before .before .before .before .before .before .before .before .before .before .pre in
     let inside = within (2 * args .half) (loop .i) (stepCount (args .steps .now)) (omega arith) in (
       record {
         half-least = omega arith;
         half-most = omega arith;
         few = omega arith;
-        room = omega (arith, next-record (2 * args .half) (loop .i), pre .room);
+        room = omega (arith, next-record (2 * args .half) (loop .i), pre .0 .room);
       },
-      (refl, (omega arith, omega arith)),
+      (refl, (omega arith, omega arith, pre .1)),
     )
 
 same-length : tie.Need-same-length Inv-loop μ-loop
@@ -69,13 +69,14 @@ same-length c = search needs
 
 returns : tie.Need-returns Inv-loop μ-loop
 returns c =
+    let if1 = c .if1 in
     let take-step = c .before .before .before .take-step in
-    let args = c .before .before .before .before .before .before .before .before .before .before .before .before .before .before .args in
+    let args = c .before .before .before .before .before .before .before .before .before .before .before .before .before .before .before .args in
     let loop = c .before .before .before .before .before .before .before .before .before .loop in
     let read-step = c .before .before .before .before .before .before .before .read-step in
-    rw (take-step .ensures .0 .bad (c .if1 .taken))
+    rw (take-step .ensures .0 .bad (if1 .taken))
     (bad-run (args .half) (args .a .now) (args .b .now) (stepAt (args .steps .now)) (args .work .now) (loop .work) (loop .i) (take-step .result) (loop .inv .4)
-    (rw (← read-is (args .steps .now) (loop .i) (read-step .result) (read-step .ensures)) (take-step .ensures .0 .number)) _ (omega arith) (loop .inv .5) (c .if1 .taken))
+    (rw (← read-is (args .steps .now) (loop .i) (read-step .result) (read-step .ensures)) (take-step .ensures .0 .number)) _ (omega arith) (loop .inv .5) (if1 .taken))
 
 add-i : tie.Need-add-i Inv-loop μ-loop
 add-i c = omega arith
@@ -85,11 +86,12 @@ loop-less c = omega arith
 
 loop-again : tie.Need-loop-again Inv-loop μ-loop
 loop-again c =
-    let args = c .before .before .before .before .before .before .before .before .before .before .before .before .before .before .args in
+    let if1 = c .if1 in
+    let args = c .before .before .before .before .before .before .before .before .before .before .before .before .before .before .before .args in
     let loop = c .before .before .before .before .before .before .before .before .before .loop in
     let read-step = c .before .before .before .before .before .before .before .read-step in
     let take-step = c .before .before .before .take-step in
-    let good = c .if1 .left in
+    let good = if1 .left in
     let read = read-is (args .steps .now) (loop .i) (read-step .result) (read-step .ensures) in (
       omega arith,
       omega arith,
@@ -106,7 +108,7 @@ same-length-2 c = search needs
 returns-2 : tie.Need-returns-2 Inv-loop μ-loop
 returns-2 c =
     let loop = c .before .loop in
-    let args = c .before .before .before .before .before .before .args in
+    let args = c .before .before .before .before .before .before .before .args in
     let all : loop .i ≡ stepCount (args .steps .now) = omega arith in
     good-run (args .half) (args .a .now) (args .b .now) (stepAt (args .steps .now)) (args .work .now) (loop .work) _ (loop .inv .4 ∙ ap (workAfter (args .half) (args .a .now) (args .b .now) (stepAt (args .steps .now)) (args .work .now)) all)
     (λ j l. loop .inv .5 j (omega arith))

@@ -12,11 +12,12 @@ test-order-requires c κs = search needs
 
 returns : tie.Need-returns
 returns c =
-    let pre = c .before .before .before .before .before .pre in
+    let if1 = c .if1 in
+    let pre = c .before .before .before .before .before .before .pre in
     let test-order = c .before .test-order in (
       record {
-        number = rw (← pre .1 .0) (test-order .ensures .bad (c .if1 .taken) _ _ _ _);
-        good = λ z. absurd (c .if1 .taken z);
+        number = rw (← pre .1 .0) (test-order .ensures .bad (if1 .taken) _ _ _ _);
+        good = λ z. absurd (if1 .taken z);
         bad = λ n. refl;
       },
       pre .1 .1 .0,
@@ -25,7 +26,7 @@ returns c =
 
 resolve-step-requires : tie.Need-resolve-step-requires
 resolve-step-requires c κs =
-    let pre = c .before .before .before .before .before .before .before .before .pre in
+    let pre = c .before .before .before .before .before .before .before .before .before .pre in
     let test-order = c .before .before .before .before .test-order in
     let if1 = c .before .before .before .if1 in (
       pre .0,
@@ -39,8 +40,8 @@ returns-2 : tie.Need-returns-2
 unfolding stored
 returns-2 c =
     let resolve-step = c .before .before .resolve-step in
-    let pre = c .before .before .before .before .before .before .before .before .before .before .before .pre in
-    let args = c .before .before .before .before .before .before .before .before .before .before .before .args in
+    let pre = c .before .before .before .before .before .before .before .before .before .before .before .before .pre in
+    let args = c .before .before .before .before .before .before .before .before .before .before .before .before .args in
     let test-order = c .before .before .before .before .before .before .before .test-order in
     let if1 = c .before .before .before .before .before .before .if1 in (
       record {
