@@ -46,7 +46,7 @@ resolve-tested-requires c κs =
     let fetch = c .before .before .before .before .before .before .fetch in
     let fetch2 = c .before .before .before .fetch2 in
     let pre = c .before .before .before .before .before .before .before .before .before .before .before .before .before .pre in
-    (omega arith, search needs, fetch .ensures .1, fetch2 .ensures .1, pre .1 .1 .2)
+    (omega arith, search needs, omega (arith, fetch .ensures .1, fetch2 .ensures .1), omega (arith, fetch .ensures .1, fetch2 .ensures .1), pre .1 .1 .2)
 
 same-length : tie.Need-same-length
 same-length c = search needs
