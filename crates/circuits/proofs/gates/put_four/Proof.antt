@@ -1,4 +1,5 @@
 -- `circuits::gates::put_four` meets its contract: four stores in a row are the number's bytes written. Assumes nothing.
+use Prim.Native.Nat.{_/_, _%_}
 use native.Mathlib.Omega.{arith}
 use borrow.Author.Needs.{needs}
 use lib.ListN.{length-set}
@@ -45,7 +46,8 @@ same-length c = search needs
 returns : tie.Need-returns
 returns c =
     let args = c .args in
-    stores (args .table .now) (args .at) _ _ _ _ (omega arith)
+    let n = args .number in
+    stores (args .table .now) (args .at) (n % 256) (n / 256 % 256) (n / 65536 % 256) (n / 16777216) (omega arith)
 
 pub put-four-spec : {M : Type 1} → statement M
 put-four-spec =

@@ -12,7 +12,7 @@ returns c =
     sym (written-out (args .gates .now) (args .k) (record { kind = args .kind; left = args .left; right = args .right }) (omega arith))
 
 put-gate-requires : tie.Need-put-gate-requires
-put-gate-requires c κs = search needs
+put-gate-requires c κs = omega arith
 
 same-length : tie.Need-same-length
 same-length c = search needs
