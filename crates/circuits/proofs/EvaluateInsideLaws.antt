@@ -1,28 +1,26 @@
 -- The laws for the proofs of the evaluator's functions: each refusal's number and place, and the values that are kept.
 use Prim.Native.Nat.{ℕ, zero, suc, _+_, _-_, _*_, _/_, _%_, _^_, _≤_, _<_}
 use mathlib.Core.Path.{_≡_, refl, sym, ap, ap₂, subst, _∙_}
-use mathlib.Core.Bool.{Bool, true, false, not, _&&_, _||_, cond, true≢false, and-false}
+use mathlib.Core.Bool.{Bool, true, false, not, _&&_, _||_, cond, true≢false, and-false, and-assoc}
 use mathlib.Core.List.{List, [], _∷_, _++_}
 use native.Mathlib.Nat.{zero-add}
 use native.Mathlib.Decide.{decLt}
 use native.Mathlib.Omega.{arith}
 use borrow.Author.Tests.{eq-eqb, ne-eqb, eqb-true, eqb-false, lt-ltb, le-ltb, ltb-true, le-leb, lt-leb, leb-true}
-use lib.Bits.{bitAnd, bitOr}
 use lib.Pow.{shr-shr, field, mod-mod-pow}
 use lib.Dec.{eqb, leb, ltb}
-use lib.ListN.{length, getD, set, length-set}
+use lib.ListN.{length, getD, set, replicate, length-set, length-replicate}
 use lib.Seq.{getD-set-same, getD-set-other, getD-append-seam}
 use Rattle.records.specs.declared.tests.Verdict.{Verdict}
 use Rattle.records.specs.Bits.{bitOf, digit}
 use Rattle.records.specs.Clause.{has}
 use Rattle.records.specs.Table.{recordAt, records}
 use Rattle.records.specs.Step.{pairAt}
-use Rattle.records.specs.Tests.{Test, test, firstFailed, refused}
-use Rattle.records.proofs.ListLaws.{length-tabulate, tabulate-none}
-use Rattle.records.proofs.TestLaws.{Passed, Numbered, Placed, passed-none, none-passed, refused-place, fails, passes, refused-not, refused-is, not-refused, no-test, passed-append, numbered-append, after-passed, after-refused}
-use Rattle.records.proofs.BitLaws.{bit-and, bit-or, zero-bit, low-bit, lowest-digit, bit-shifted}
+use Rattle.records.specs.Tests.{Test, test, firstFailed}
+use Rattle.records.proofs.ListLaws.{length-tabulate, tabulate-none, by-truth}
+use Rattle.records.proofs.TestLaws.{Passed, Numbered, Placed, passed-none, none-passed, refused-place, fails, passes, refused-not, refused-is, no-test, passed-append, numbered-append, after-passed, after-refused}
+use Rattle.records.proofs.BitLaws.{low-bit, bit-shifted}
 use Rattle.records.proofs.ClauseLaws.{has-at}
-use Rattle.records.proofs.StepLaws.{spare-joined}
 use Rattle.records.proofs.TableLaws.{byte-recordAt}
 use Rattle.circuits.specs.declared.evaluation.GateRecord.{GateRecord}
 use Rattle.circuits.specs.declared.evaluation.Evaluated.{Evaluated}
@@ -30,9 +28,9 @@ use Rattle.circuits.specs.Reference.{gateReference}
 use Rattle.circuits.specs.Gate.{Gate, gateAt, spareAt, gatesOf}
 use Rattle.circuits.specs.Value.{referenceValue, kindValue, gateValue, values, value}
 use Rattle.circuits.specs.Evaluate.{Evaluates, answered, lengthTests, formTests, recordTests, gateTests, gatesTests, referenceTests, keptAt, keptValue, gateEvaluated, evaluationTests, evaluated}
-use Rattle.circuits.specs.EvaluateInside.{lengthNumber, GateRead, rowValue, Rows, RowFilled, Filled, Known, recordEvaluated, Ran}
+use Rattle.circuits.specs.EvaluateInside.{lengthNumber, OrOf, FormTested, Joined, GateRead, rowValue, Rows, RowFilled, Filled, Known, Room, Ran, evaluatedWithin}
 use Rattle.circuits.proofs.ValueLaws.{value-positive, value-negative, value-gate, value-earlier, circuit-length}
-use Rattle.circuits.proofs.EvaluateLaws.{values-next, tests-split, lengths-refuse, root-decides}
+use Rattle.circuits.proofs.EvaluateLaws.{values-next, tests-split, lengths-refuse, lengths-pass, root-decides}
 
 pub and-both : (x y : Bool) → (x && y) ≡ true → (x ≡ true) × (y ≡ true)
 and-both true true e = (refl, refl)
@@ -61,29 +59,7 @@ answers-value ts x r passed e =
 pub answers-by : (v w : Verdict) (x : Bool) (r : Evaluated) → v ≡ w → Evaluates (answered w x) r → Evaluates (answered v x) r
 answers-by v w x r e a = subst (λ (u : Verdict). Evaluates (answered u x) r) (sym e) a
 
--- an answer's value is 0 or 1, and is the value where nothing is refused
-pub answer-small : (v : Verdict) (x : Bool) → cond (refused v) 0 (digit x) < 256
-answer-small v x = go (refused v) x
-  where
-    go : (b x : Bool) → cond b 0 (digit x) < 256
-    go true x = omega arith
-    go false true = omega arith
-    go false false = omega arith
-
-pub answer-value : (v : Verdict) (x : Bool) → v .number ≡ 0 → cond (refused v) 0 (digit x) ≡ digit x
-answer-value v x e = ap (λ (b : Bool). cond b 0 (digit x)) (refused-not v e)
-
 -- 22 and 23 of a gate on plain numbers
-pub kind-good : (kind : ℕ) → 1 ≤ kind → kind ≤ 2 → (eqb kind 1 || eqb kind 2) ≡ true
-kind-good kind least most = go (eqb kind 1) refl
-  where
-    go : (b : Bool) → eqb kind 1 ≡ b → (b || eqb kind 2) ≡ true
-    go true e = refl
-    go false e = let other = eqb-false kind 1 e in eq-eqb kind 2 (omega arith)
-
-abbrev inputTests : ℕ → ℕ → ℕ → ℕ → List Test
-inputTests own left right k = test (ltb left own && ltb right own) 23 k ∷ []
-
 pub form-numbered : (own k : ℕ) (g : Gate) → Numbered (formTests own k g)
 unfolding formTests
 form-numbered own k g = (omega arith, (omega arith, tt))
@@ -92,95 +68,78 @@ pub form-placed : (own k : ℕ) (g : Gate) → Placed k (formTests own k g)
 unfolding formTests
 form-placed own k g = (refl, (refl, tt))
 
-pub form-inputs : (own k : ℕ) (g : Gate) → Passed (formTests own k g) → (g .left < own) × (g .right < own)
-unfolding formTests
-form-inputs own k g passed =
-    let both = and-both (ltb (g .left) own) (ltb (g .right) own) (passed .1 .0) in
-    (ltb-true (g .left) own (both .0), ltb-true (g .right) own (both .1))
-
--- the value of a gate from the lowest bits of two bytes
-joins : (kind x y : ℕ) → 1 ≤ kind → kind ≤ 2 → bitOr (bitAnd x y) (bitAnd (bitOr x y) (kind / 2)) % 2 ≡ digit (kindValue kind (bitOf x 0) (bitOf y 0))
-joins kind x y least most =
-    low-bit (bitOr (bitAnd x y) (bitAnd (bitOr x y) (kind / 2)))
-    ∙ ap digit
-    (bit-or (bitAnd x y) (bitAnd (bitOr x y) (kind / 2)) 0
-    ∙ ap₂ _||_ (bit-and x y 0) (bit-and (bitOr x y) (kind / 2) 0 ∙ ap (λ (b : Bool). b && bitOf (kind / 2) 0) (bit-or x y 0))
-    ∙ by-kind kind (bitOf x 0) (bitOf y 0) least most)
+kind-formed : (kind or : ℕ) → OrOf kind or → or ≤ 1 → (eqb kind 1 || eqb kind 2) ≡ true
+kind-formed kind or is small = go (eqb kind 1) refl
   where
-    by-or : (x y : Bool) → ((x && y) || ((x || y) && true)) ≡ (x || y)
-    by-or true true = refl
-    by-or true false = refl
-    by-or false true = refl
-    by-or false false = refl
+    go : (b : Bool) → eqb kind 1 ≡ b → (b || eqb kind 2) ≡ true
+    go true e = refl
+    go false e = eq-eqb kind 2 (omega (arith, eqb-false kind 1 e, is .formed small))
 
-    by-and : (x y : Bool) → ((x && y) || ((x || y) && false)) ≡ (x && y)
-    by-and true true = refl
-    by-and true false = refl
-    by-and false true = refl
-    by-and false false = refl
+form-kind : (own k : ℕ) (g : Gate) → (g .kind ≡ 1 → ⊥) → (g .kind ≡ 2 → ⊥) → firstFailed (formTests own k g) .number ≡ 22
+unfolding formTests firstFailed
+form-kind own k g one two = rw (ne-eqb (g .kind) 1 one, ne-eqb (g .kind) 2 two) refl
 
-    by-kind : (kind : ℕ) (x y : Bool) → 1 ≤ kind → kind ≤ 2 → ((x && y) || ((x || y) && bitOf (kind / 2) 0)) ≡ kindValue kind x y
-    by-kind zero x y least most = absurd (omega arith)
-    by-kind (suc zero) x y least most = rw (zero-bit 0) (by-and x y)
-    by-kind (suc (suc zero)) x y least most = rw (lowest-digit true) (by-or x y)
-    by-kind (suc (suc (suc n))) x y least most = absurd (omega arith)
+module _ (or left right own : ℕ) where
+  pub kind-tested : 1 < or → FormTested or left right own 22
+  kind-tested large =
+      record {
+        number = λ kind k is. sym (form-kind own k (record { kind = kind; left = left; right = right }) (is .other large .0) (is .other large .1));
+        formed = λ e. absurd (omega arith);
+      }
+
+  module _ (small : or ≤ 1) where
+    pub left-tested : own ≤ left → FormTested or left right own 23
+    unfolding formTests firstFailed
+    left-tested late = record { number = λ kind k is. rw (kind-formed kind or is small, le-ltb left own late) refl; formed = λ e. absurd (omega arith) }
+
+    pub right-tested : own ≤ right → FormTested or left right own 23
+    unfolding formTests firstFailed
+    right-tested late =
+        record { number = λ kind k is. rw (kind-formed kind or is small, le-ltb right own late, and-false (ltb left own)) refl; formed = λ e. absurd (omega arith) }
+
+    pub form-tested : left < own → right < own → FormTested or left right own 0
+    unfolding formTests firstFailed
+    form-tested l r =
+        record { number = λ kind k is. rw (kind-formed kind or is small, lt-ltb left own l, lt-ltb right own r) refl; formed = λ e. (small, l, r) }
+
+-- the value of a gate: half of the sum is the AND, and of one more the OR
+pub half-joins : (or first second : ℕ) → or ≤ 1 → Joined or first second ((first + second + or) / 2)
+half-joins or first second small = record { value = λ x y e f. rw (e, f) (go or x y small) }
+  where
+    go : (or : ℕ) (x y : Bool) → or ≤ 1 → (digit x + digit y + or) / 2 ≡ digit (kindValue (or + 1) x y)
+    go zero true true l = refl
+    go zero true false l = refl
+    go zero false true l = refl
+    go zero false false l = refl
+    go (suc zero) true true l = refl
+    go (suc zero) true false l = refl
+    go (suc zero) false true l = refl
+    go (suc zero) false false l = refl
+    go (suc (suc or)) x y l = absurd (omega arith)
 
 -- one gate on plain numbers
-module _ (bytes : List ℕ) (kind left right k : ℕ) where
-  pub gate-kind : (kind ≡ 1 → ⊥) → (kind ≡ 2 → ⊥)
-      → Evaluates (gateEvaluated bytes k (record { kind = kind; left = left; right = right })) (record { number = 22; place = k; value = 0 })
-  unfolding gateEvaluated formTests
-  gate-kind one two =
+module _ (bytes : List ℕ) (kind left right k or n : ℕ) (is : OrOf kind or) (tested : FormTested or left right (length bytes) n) where
+  pub gate-refused : (n ≡ 0 → ⊥) → Evaluates (gateEvaluated bytes k (record { kind = kind; left = left; right = right })) (record { number = n; place = k; value = 0 })
+  unfolding gateEvaluated
+  gate-refused bad =
       let g : Gate = record { kind = kind; left = left; right = right } in
-      answers-refused (formTests (length bytes) k g) (keptValue bytes g) 22 k (form-placed (length bytes) k g)
-      (sym (ap (λ (v : Verdict). v .number)
-      (fails (eqb kind 1 || eqb kind 2) 22 k (inputTests (length bytes) left right k) (rw (ne-eqb kind 1 one, ne-eqb kind 2 two) refl)))) (λ z. absurd (omega arith))
+      answers-refused (formTests (length bytes) k g) (keptValue bytes g) n k (form-placed (length bytes) k g) (tested .number kind k is) bad
 
-  module _ (least : 1 ≤ kind) (most : kind ≤ 2) where
-    gate-input : (ltb left (length bytes) && ltb right (length bytes)) ≡ false
-        → Evaluates (gateEvaluated bytes k (record { kind = kind; left = left; right = right })) (record { number = 23; place = k; value = 0 })
-    unfolding gateEvaluated formTests
-    gate-input late =
-        let g : Gate = record { kind = kind; left = left; right = right } in
-        answers-refused (formTests (length bytes) k g) (keptValue bytes g) 23 k (form-placed (length bytes) k g)
-        (sym (ap (λ (v : Verdict). v .number)
-        (passes (eqb kind 1 || eqb kind 2) 22 k (inputTests (length bytes) left right k) (kind-good kind least most)
-        ∙ fails (ltb left (length bytes) && ltb right (length bytes)) 23 k [] late))) (λ z. absurd (omega arith))
+  pub gate-valued : n ≡ 0 → (r : ℕ) → Joined or (getD bytes left 0 % 2) (getD bytes right 0 % 2) r
+      → Evaluates (gateEvaluated bytes k (record { kind = kind; left = left; right = right })) (record { number = 0; place = 0; value = r })
+  unfolding gateEvaluated keptAt
+  gate-valued good r joined =
+      let g : Gate = record { kind = kind; left = left; right = right } in
+      let passed = none-passed (formTests (length bytes) k g) (form-numbered (length bytes) k g) (sym (tested .number kind k is) ∙ good) in
+      let valued = joined .value (bitOf (getD bytes left 0) 0) (bitOf (getD bytes right 0) 0) (low-bit (getD bytes left 0)) (low-bit (getD bytes right 0)) in
+      rw (valued, ← is .formed (tested .formed good .0)) (answers-value (formTests (length bytes) k g) (keptValue bytes g) (keptValue bytes g) passed refl)
 
-    pub gate-left : length bytes ≤ left → Evaluates (gateEvaluated bytes k (record { kind = kind; left = left; right = right })) (record { number = 23; place = k; value = 0 })
-    gate-left late = gate-input (ap (λ (b : Bool). b && ltb right (length bytes)) (le-ltb left (length bytes) late))
-
-    pub gate-right : length bytes ≤ right → Evaluates (gateEvaluated bytes k (record { kind = kind; left = left; right = right })) (record { number = 23; place = k; value = 0 })
-    gate-right late = gate-input (ap (λ (b : Bool). ltb left (length bytes) && b) (le-ltb right (length bytes) late) ∙ and-false (ltb left (length bytes)))
-
-    pub gate-joined : left < length bytes → right < length bytes
-        → Evaluates (gateEvaluated bytes k (record { kind = kind; left = left; right = right }))
-        (record { number = 0; place = 0; value = bitOr (bitAnd (getD bytes left 0) (getD bytes right 0)) (bitAnd (bitOr (getD bytes left 0) (getD bytes right 0)) (kind / 2)) % 2 })
-    unfolding gateEvaluated formTests keptAt
-    gate-joined l r =
-        let g : Gate = record { kind = kind; left = left; right = right } in
-        let x = kindValue kind (bitOf (getD bytes left 0) 0) (bitOf (getD bytes right 0) 0) in
-        subst (λ (n : ℕ). Evaluates (answered (firstFailed (formTests (length bytes) k g)) x) (record { number = 0; place = 0; value = n }))
-        (sym (joins kind (getD bytes left 0) (getD bytes right 0) least most))
-        (answers-value (formTests (length bytes) k g) x x (kind-good kind least most, (ap₂ _&&_ (lt-ltb left (length bytes) l) (lt-ltb right (length bytes) r), tt)) refl)
-
--- gate k of a table, behind references whose values are kept
+-- gate k of a table
 pub gate-numbered : (own : ℕ) (t : List ℕ) (k : ℕ) → Numbered (recordTests own t k)
 gate-numbered own t k = (omega arith, form-numbered own k (gateAt t k))
 
-pub record-spare : (t : List ℕ) (k : ℕ) (bytes : List ℕ) → spareAt t k ≡ false → Evaluates (recordEvaluated t k bytes) (record { number = 22; place = k; value = 0 })
-unfolding recordEvaluated
-record-spare t k bytes e =
-    answers-refused (recordTests (length bytes) t k) (keptValue bytes (gateAt t k)) 22 k (refl, form-placed (length bytes) k (gateAt t k))
-    (sym (ap (λ (v : Verdict). v .number) (fails (spareAt t k) 22 k (formTests (length bytes) k (gateAt t k)) e))) (λ z. absurd (omega arith))
-
-pub record-gate : (t : List ℕ) (k : ℕ) (bytes : List ℕ) (g : Gate) (r : Evaluated) → spareAt t k ≡ true → g ≡ gateAt t k
-    → Evaluates (gateEvaluated bytes k g) r → Evaluates (recordEvaluated t k bytes) r
-unfolding recordEvaluated gateEvaluated
-record-gate t k bytes g r spare e valued =
-    answers-by (firstFailed (recordTests (length bytes) t k)) (firstFailed (formTests (length bytes) k (gateAt t k))) (keptValue bytes (gateAt t k)) r
-    (passes (spareAt t k) 22 k (formTests (length bytes) k (gateAt t k)) spare)
-    (subst (λ (f : Gate). Evaluates (answered (firstFailed (formTests (length bytes) k f)) (keptValue bytes f)) r) e valued)
+pub gate-placed : (own : ℕ) (t : List ℕ) (k : ℕ) → Placed k (recordTests own t k)
+gate-placed own t k = (refl, form-placed own k (gateAt t k))
 
 -- all gates of a table
 pub gates-stop : (N : ℕ) (t : List ℕ) (k more n : ℕ) → suc (k + more) ≡ n → Passed (gatesTests N t k) → (firstFailed (gateTests N t k) .number ≡ 0 → ⊥)
@@ -319,6 +278,13 @@ pub known-none : (N : ℕ) (assignment t bytes : List ℕ) → Filled N assignme
 unfolding gatesOf values
 known-none N assignment t bytes filled = rw (tabulate-none (gateAt t)) (record { byte = λ r l. filled .byte r (omega arith) })
 
+pub known-small : (N : ℕ) (σ : ℕ → Bool) (vs : List Bool) (k : ℕ) (bytes : List ℕ) → Known N σ vs k bytes → (r : ℕ) → r < gateReference N k → getD bytes r 0 ≤ 1
+known-small N σ vs k bytes known r l = rw (known .byte r l) (go (referenceValue N σ vs r))
+  where
+    go : (b : Bool) → digit b ≤ 1
+    go true = omega arith
+    go false = omega arith
+
 length-gatesOf : (t : List ℕ) (k : ℕ) → length (gatesOf t k) ≡ k
 unfolding gatesOf
 length-gatesOf t k = length-tabulate k (gateAt t)
@@ -398,17 +364,11 @@ module _ (h most : ℕ) (assignment t : List ℕ) where
   unfolding lengthTests
   lengths-size e = eqb-true (length assignment) h (lengths-passed e .0)
 
-  pub lengths-few : 0 ≡ lengthNumber h most assignment t → length t / 8 ≤ most
+  pub lengths-few : 0 ≡ lengthNumber h most assignment t → length t ≤ 8 * most
   unfolding lengthTests
-  lengths-few e =
-      let both = and-both (eqb (length t % 8) 0) (leb (length t) (8 * most)) (lengths-passed e .1 .0) in
-      let few = leb-true (length t) (8 * most) (both .1) in
-      omega arith
+  lengths-few e = leb-true (length t) (8 * most) (and-both (eqb (length t % 8) 0) (leb (length t) (8 * most)) (lengths-passed e .1 .0) .1)
 
-  pub root-there : 0 ≡ lengthNumber h most assignment t → (root : ℕ) → root < gateReference (8 * h) (records 8 t) → root < 2 + 16 * h + most
-  root-there e root there = let few = lengths-few e in omega arith
-
-  -- the whole evaluation
+  -- the whole evaluation: by the lengths, and else by what lies behind their tests
   module _ (root : ℕ) where
     pub evaluated-lengths : (n : ℕ) → n ≡ lengthNumber h most assignment t → (n ≡ 0 → ⊥) → Evaluates (evaluated h most assignment t root) (record { number = n; place = 0; value = 0 })
     unfolding evaluated lengthNumber
@@ -418,44 +378,70 @@ module _ (h most : ℕ) (assignment t : List ℕ) where
         (lengths-refuse h most assignment t root (λ z. bad (e ∙ z)))
         (answers-refused (lengthTests h most assignment t) x n 0 lengths-placed e bad)
 
-    module _ (lengths : 0 ≡ lengthNumber h most assignment t) (bytes : List ℕ) (r : Verdict) (ran : Ran (8 * h) assignment t bytes r) where
-      pub evaluated-gates : (r .number ≡ 0 → ⊥) → Evaluates (evaluated h most assignment t root) (record { number = r .number; place = r .place; value = 0 })
-      unfolding evaluated evaluationTests
-      evaluated-gates bad =
-          let x = value (8 * h) (has assignment) (gatesOf t (records 8 t)) root in
-          let gates = gatesTests (8 * h) t (records 8 t) in
-          let last = referenceTests (8 * h) root (records 8 t) in
-          answers-by (firstFailed (evaluationTests h most assignment t root)) (firstFailed gates) x (record { number = r .number; place = r .place; value = 0 })
-          (after-passed (lengthTests h most assignment t) (gates ++ last) (lengths-passed lengths) ∙ after-refused gates last (λ z. bad (ran .number ∙ z)))
-          (record {
-            number = ran .number;
-            place = ran .place;
-            value = sym (ap (λ (b : Bool). cond b 0 (digit x)) (refused-is (firstFailed gates) (λ z. bad (ran .number ∙ z))));
-          })
+    pub evaluated-within : 0 ≡ lengthNumber h most assignment t → evaluated h most assignment t root ≡ evaluatedWithin h assignment t root
+    unfolding evaluated evaluatedWithin
+    evaluated-within e =
+        ap (λ (v : Verdict). answered v (value (8 * h) (has assignment) (gatesOf t (records 8 t)) root))
+        (lengths-pass h most assignment t root (lengths-passed e))
 
-      gates-passed-all : r .number ≡ 0 → Passed (gatesTests (8 * h) t (records 8 t))
-      gates-passed-all good = none-passed (gatesTests (8 * h) t (records 8 t)) (gates-numbered (8 * h) t (records 8 t)) (sym (ran .number) ∙ good)
+-- behind the lengths: the gates, and the root
+module _ (h : ℕ) (assignment t : List ℕ) (root : ℕ) (bytes : List ℕ) (r : Verdict) (ran : Ran (8 * h) assignment t bytes r) where
+  pub within-gates : (r .number ≡ 0 → ⊥) → Evaluates (evaluatedWithin h assignment t root) (record { number = r .number; place = r .place; value = 0 })
+  unfolding evaluatedWithin
+  within-gates bad =
+      let x = value (8 * h) (has assignment) (gatesOf t (records 8 t)) root in
+      let gates = gatesTests (8 * h) t (records 8 t) in
+      let last = referenceTests (8 * h) root (records 8 t) in
+      answers-by (firstFailed (gates ++ last)) (firstFailed gates) x (record { number = r .number; place = r .place; value = 0 })
+      (after-refused gates last (λ z. bad (ran .number ∙ z)))
+      (record {
+        number = ran .number;
+        place = ran .place;
+        value = sym (ap (λ (b : Bool). cond b 0 (digit x)) (refused-is (firstFailed gates) (λ z. bad (ran .number ∙ z))));
+      })
 
-      pub evaluated-root : r .number ≡ 0 → gateReference (8 * h) (records 8 t) ≤ root → Evaluates (evaluated h most assignment t root) (record { number = 24; place = 0; value = 0 })
-      unfolding evaluated referenceTests
-      evaluated-root good late =
-          let x = value (8 * h) (has assignment) (gatesOf t (records 8 t)) root in
-          let last = referenceTests (8 * h) root (records 8 t) in
-          answers-by (firstFailed (evaluationTests h most assignment t root)) (firstFailed last) x (record { number = 24; place = 0; value = 0 })
-          (root-decides h most assignment t root (lengths-passed lengths) (gates-passed-all good))
-          (answers-refused last x 24 0 (refl, tt) (sym (ap (λ (v : Verdict). v .number) (fails (ltb root (gateReference (8 * h) (records 8 t))) 24 0 [] (le-ltb root (gateReference (8 * h) (records 8 t)) late)))) (λ z. absurd (omega arith)))
+  -- where no gate is refused the root decides
+  module _ (good : r .number ≡ 0) where
+    within-last : (a : Evaluated) → Evaluates (answered (firstFailed (referenceTests (8 * h) root (records 8 t))) (value (8 * h) (has assignment) (gatesOf t (records 8 t)) root)) a
+        → Evaluates (evaluatedWithin h assignment t root) a
+    unfolding evaluatedWithin
+    within-last a =
+        answers-by (firstFailed (gatesTests (8 * h) t (records 8 t) ++ referenceTests (8 * h) root (records 8 t))) (firstFailed (referenceTests (8 * h) root (records 8 t)))
+        (value (8 * h) (has assignment) (gatesOf t (records 8 t)) root) a
+        (root-decides (8 * h) t root (none-passed (gatesTests (8 * h) t (records 8 t)) (gates-numbered (8 * h) t (records 8 t)) (sym (ran .number) ∙ good)))
 
-      pub evaluated-value : r .number ≡ 0 → root < gateReference (8 * h) (records 8 t)
-          → Evaluates (evaluated h most assignment t root) (record { number = 0; place = 0; value = getD bytes root 0 })
-      unfolding evaluated referenceTests
-      evaluated-value good there =
-          let x = value (8 * h) (has assignment) (gatesOf t (records 8 t)) root in
-          let last = referenceTests (8 * h) root (records 8 t) in
-          answers-by (firstFailed (evaluationTests h most assignment t root)) (firstFailed last) x (record { number = 0; place = 0; value = getD bytes root 0 })
-          (root-decides h most assignment t root (lengths-passed lengths) (gates-passed-all good))
-          (subst (λ (n : ℕ). Evaluates (answered (firstFailed last) x) (record { number = 0; place = 0; value = n }))
-          (sym (ran .kept good .byte root there))
-          (answers-value last x x (lt-ltb root (gateReference (8 * h) (records 8 t)) there, tt) refl))
+    pub within-root : gateReference (8 * h) (records 8 t) ≤ root → Evaluates (evaluatedWithin h assignment t root) (record { number = 24; place = 0; value = 0 })
+    unfolding referenceTests
+    within-root late =
+        within-last (record { number = 24; place = 0; value = 0 })
+        (answers-refused (referenceTests (8 * h) root (records 8 t)) (value (8 * h) (has assignment) (gatesOf t (records 8 t)) root) 24 0 (refl, tt)
+        (sym (ap (λ (v : Verdict). v .number) (fails (ltb root (gateReference (8 * h) (records 8 t))) 24 0 [] (le-ltb root (gateReference (8 * h) (records 8 t)) late))))
+        (λ z. absurd (omega arith)))
+
+    pub within-value : root < gateReference (8 * h) (records 8 t) → Evaluates (evaluatedWithin h assignment t root) (record { number = 0; place = 0; value = getD bytes root 0 })
+    unfolding referenceTests
+    within-value there =
+        let x = value (8 * h) (has assignment) (gatesOf t (records 8 t)) root in
+        within-last (record { number = 0; place = 0; value = getD bytes root 0 })
+        (rw (ran .kept good .byte root there)
+        (answers-value (referenceTests (8 * h) root (records 8 t)) x x (lt-ltb root (gateReference (8 * h) (records 8 t)) there, tt) refl))
+
+-- an array with a byte for each reference: "so 2 to 513", and one for each gate
+pub array-room : (gates : ℕ) (assignment t : List ℕ) → length assignment ≡ 32 → length t ≤ 8 * gates → Room 32 assignment t (replicate {A = ℕ} (514 + gates) 0)
+array-room gates assignment t size few =
+    record { half = omega arith; assigned = omega arith; references = omega (arith, length-replicate {A = ℕ} (514 + gates) 0) }
+
+pair-zero : (x y : ℕ) → eqb (x + 256 * y) 0 ≡ (eqb x 0 && eqb y 0)
+pair-zero x y =
+    by-truth (eqb (x + 256 * y) 0) (eqb x 0 && eqb y 0)
+    (λ e. let none = eqb-true (x + 256 * y) 0 e in ap₂ _&&_ (eq-eqb x 0 (omega arith)) (eq-eqb y 0 (omega arith)))
+    (λ e. let both = and-both (eqb x 0) (eqb y 0) e in eq-eqb (x + 256 * y) 0 (omega (arith, eqb-true x 0 (both .0), eqb-true y 0 (both .1))))
+
+-- g is gate k of a table, field by field
+pub record GateIs (t : List ℕ) (k : ℕ) (g : Gate) : Type 0 where
+  pub kind : g .kind ≡ gateAt t k .kind
+  pub left : g .left ≡ gateAt t k .left
+  pub right : g .right ≡ gateAt t k .right
 
 -- a gate's bytes, read from the table
 module _ (t : List ℕ) (k : ℕ) (inside : 8 * k + 8 ≤ length t) where
@@ -467,78 +453,81 @@ module _ (t : List ℕ) (k : ℕ) (inside : 8 * k + 8 ≤ length t) where
       let e : 8 * k + i + 1 ≡ 8 * k + (i + 1) = omega arith in
       rw e (ap₂ (λ (x y : ℕ). x + 256 * y) (gate-byte i (omega arith)) (gate-byte (i + 1) l))
 
-  pub gate-read : (left right : ℕ) → left ≡ pairAt t (8 * k + 2) → right ≡ pairAt t (8 * k + 4)
-      → GateRead t k (record { kind = getD t (8 * k) 0; left = left; right = right; spare = eqb (bitOr (bitOr (getD t (8 * k + 1) 0) (getD t (8 * k + 6) 0)) (getD t (8 * k + 7) 0)) 0 })
-  unfolding gateAt spareAt
+  pub gate-read : (left right : ℕ) → left ≡ pairAt t (8 * k + 2) → right ≡ pairAt t (8 * k + 4) → GateIs t k (record { kind = getD t (8 * k) 0; left = left; right = right })
+  unfolding gateAt
   gate-read left right l r =
       let e : 8 * k ≡ 8 * k + 0 = omega arith in
-      record {
-        kind = ap (λ (i : ℕ). getD t i 0) e ∙ gate-byte 0 (omega arith);
-        left = l ∙ gate-pair 2 (omega arith);
-        right = r ∙ gate-pair 4 (omega arith);
-        spare =
-            spare-joined (getD t (8 * k + 1) 0) (getD t (8 * k + 6) 0) (getD t (8 * k + 7) 0)
-            ∙ ap₂ (λ (x y : Bool). x && y)
-            (ap₂ (λ (x y : Bool). x && y) (ap (λ (x : ℕ). eqb x 0) (gate-byte 1 (omega arith))) (ap (λ (x : ℕ). eqb x 0) (gate-byte 6 (omega arith))))
-            (ap (λ (x : ℕ). eqb x 0) (gate-byte 7 (omega arith)));
-      }
+      record { kind = ap (λ (i : ℕ). getD t i 0) e ∙ gate-byte 0 (omega arith); left = l ∙ gate-pair 2 (omega arith); right = r ∙ gate-pair 4 (omega arith) }
 
-pub gate-is : (t : List ℕ) (k : ℕ) (g : GateRecord) → GateRead t k g → record { kind = g .kind; left = g .left; right = g .right } ≡ gateAt t k
-gate-is t k g read =
-    ap (λ (x : ℕ). record { kind = x; left = g .left; right = g .right }) (read .kind)
-    ∙ ap₂ (λ (x y : ℕ). record { kind = gateAt t k .kind; left = x; right = y }) (read .left) (read .right)
+  -- "byte 1, 6 or 7 not zero": byte 1, and the two last bytes as one number
+  gate-spare : spareAt t k ≡ (eqb (getD t (8 * k + 1) 0) 0 && eqb (pairAt t (8 * k + 6)) 0)
+  unfolding spareAt
+  gate-spare =
+      let bytes = recordAt 8 t k in
+      and-assoc (eqb (getD bytes 1 0) 0) (eqb (getD bytes 6 0) 0) (eqb (getD bytes 7 0) 0)
+      ∙ sym (ap₂ _&&_ (ap (λ (x : ℕ). eqb x 0) (gate-byte 1 (omega arith)))
+      (ap (λ (x : ℕ). eqb x 0) (gate-pair 6 (omega arith)) ∙ pair-zero (getD bytes 6 0) (getD bytes 7 0)))
 
--- a turn of the loop over the gates: the part has the values of the references before gate k
-module _ (N : ℕ) (assignment t bytes part : List ℕ) (k : ℕ) (r : Evaluated)
-    (known : Known N (has assignment) (values N (has assignment) [] (gatesOf t k)) k bytes)
-    (size : length part ≡ gateReference N k) (before : (i : ℕ) → i < gateReference N k → getD part i 0 ≡ getD bytes i 0)
-    (turned : Evaluates (recordEvaluated t k part) r) where
-  kept-is : (i : ℕ) → i < gateReference N k → keptAt part i ≡ referenceValue N (has assignment) (values N (has assignment) [] (gatesOf t k)) i
-  unfolding keptAt
-  kept-is i l = ap (λ (x : ℕ). bitOf x 0) (before i l ∙ known .byte i l) ∙ lowest-digit (referenceValue N (has assignment) (values N (has assignment) [] (gatesOf t k)) i)
+  -- the tests of the record whose numbers were read
+  module _ (g : GateRecord) (read : GateRead t k g) where
+    gate-is : (kind : ℕ) → kind ≡ getD t (8 * k) 0 → record { kind = kind; left = g .left; right = g .right } ≡ gateAt t k
+    gate-is kind e =
+        let same = gate-read (g .left) (g .right) (read .left) (read .right) in
+        λ i. record { kind = (e ∙ same .kind) i; left = same .left i; right = same .right i }
 
-  kept-value : Passed (gateTests N t k) → keptValue part (gateAt t k) ≡ gateValue N (has assignment) (values N (has assignment) [] (gatesOf t k)) (gateAt t k)
-  unfolding gateValue
-  kept-value passed =
-      let inputs = form-inputs (gateReference N k) k (gateAt t k) (passed .1) in
-      ap₂ (kindValue (gateAt t k .kind)) (kept-is (gateAt t k .left) (inputs .0)) (kept-is (gateAt t k .right) (inputs .1))
+    pub tail-refused : (own : ℕ) → (g .tail ≡ 0 → ⊥) → 22 ≡ firstFailed (recordTests own t k) .number
+    tail-refused own set =
+        let spare = gate-spare ∙ ap (λ (b : Bool). eqb (getD t (8 * k + 1) 0) 0 && b) (ne-eqb (pairAt t (8 * k + 6)) 0 (λ z. set (read .tail ∙ z))) ∙ and-false (eqb (getD t (8 * k + 1) 0) 0) in
+        sym (ap (λ (v : Verdict). v .number) (fails (spareAt t k) 22 k (formTests own k (gateAt t k)) spare))
 
-  answer-is : (b : Bool) → refused (firstFailed (gateTests N t k)) ≡ b
-      → cond b 0 (digit (keptValue part (gateAt t k))) ≡ cond b 0 (digit (gateValue N (has assignment) (values N (has assignment) [] (gatesOf t k)) (gateAt t k)))
-  answer-is true e = refl
-  answer-is false e =
-      ap digit (kept-value (none-passed (gateTests N t k) (gate-numbered (gateReference N k) t k) (not-refused (firstFailed (gateTests N t k)) e)))
+    -- where byte 1 is set the kind is 256 or more, and no gate's
+    module _ (or : ℕ) (is : OrOf (g .kind) or) where
+      pub record-tested : (own n : ℕ) → g .tail ≡ 0 → FormTested or (g .left) (g .right) own n → n ≡ firstFailed (recordTests own t k) .number
+      record-tested own n clear tested = go (eqb (getD t (8 * k + 1) 0) 0) refl
+        where
+          tail : eqb (pairAt t (8 * k + 6)) 0 ≡ true
+          tail = eq-eqb (pairAt t (8 * k + 6)) 0 (sym (read .tail) ∙ clear)
 
-  turn-answer : Evaluates (answered (firstFailed (gateTests N t k)) (gateValue N (has assignment) (values N (has assignment) [] (gatesOf t k)) (gateAt t k))) r
-  unfolding recordEvaluated
-  turn-answer =
-      let here : Evaluates (answered (firstFailed (gateTests N t k)) (keptValue part (gateAt t k))) r =
-      subst (λ (own : ℕ). Evaluates (answered (firstFailed (recordTests own t k)) (keptValue part (gateAt t k))) r) size turned in
-      record { number = here .number; place = here .place; value = here .value ∙ answer-is (refused (firstFailed (gateTests N t k))) refl }
+          go : (b : Bool) → eqb (getD t (8 * k + 1) 0) 0 ≡ b → n ≡ firstFailed (recordTests own t k) .number
+          go true e =
+              let byte = eqb-true (getD t (8 * k + 1) 0) 0 e in
+              tested .number (g .kind) k is
+              ∙ ap (λ (f : Gate). firstFailed (formTests own k f) .number) (gate-is (g .kind) (omega (arith, read .kind)))
+              ∙ sym (ap (λ (v : Verdict). v .number) (passes (spareAt t k) 22 k (formTests own k (gateAt t k)) (gate-spare ∙ ap₂ _&&_ e tail)))
+          go false e =
+              let byte = eqb-false (getD t (8 * k + 1) 0) 0 e in
+              let f : Gate = record { kind = g .kind; left = g .left; right = g .right } in
+              tested .number (g .kind) k is ∙ form-kind own k f (λ one. byte (omega (arith, read .kind, one))) (λ two. byte (omega (arith, read .kind, two)))
+              ∙ sym (ap (λ (v : Verdict). v .number)
+              (fails (spareAt t k) 22 k (formTests own k (gateAt t k)) (gate-spare ∙ ap (λ (b : Bool). b && eqb (pairAt t (8 * k + 6)) 0) e)))
 
-  pub turn-small : r .value < 256
-  turn-small =
-      omega (arith, turn-answer .value, answer-small (firstFailed (gateTests N t k)) (gateValue N (has assignment) (values N (has assignment) [] (gatesOf t k)) (gateAt t k)))
+      gate-formed : or ≤ 1 → record { kind = or + 1; left = g .left; right = g .right } ≡ gateAt t k
+      gate-formed small = gate-is (or + 1) (omega (arith, read .kind, is .formed small))
 
-  pub turn-stops : (last : List ℕ) → k < records 8 t → Passed (gatesTests N t k) → (r .number ≡ 0 → ⊥) → Ran N assignment t last (record { number = r .number; place = r .place })
-  turn-stops last l before bad =
-      let e : suc (k + (length t / 8 - suc k)) ≡ length t / 8 = omega arith in
-      let stop = gates-stop N t k (length t / 8 - suc k) (length t / 8) e before (λ z. bad (turn-answer .number ∙ z)) in
-      record {
-        number = turn-answer .number ∙ sym (ap (λ (v : Verdict). v .number) stop);
-        place = turn-answer .place ∙ sym (ap (λ (v : Verdict). v .place) stop);
-        kept = λ z. absurd (bad z);
-      }
+      -- the value that is kept for it
+      pub turn-keeps : (N : ℕ) (σ : ℕ → Bool) (bytes : List ℕ) (n b : ℕ) → Known N σ (values N σ [] (gatesOf t k)) k bytes → FormTested or (g .left) (g .right) (gateReference N k) n
+          → n ≡ 0 → Joined or (getD bytes (g .left) 0) (getD bytes (g .right) 0) b → gateReference N k < length bytes
+          → Known N σ (values N σ [] (gatesOf t (k + 1))) (k + 1) (set bytes (gateReference N k) b)
+      unfolding gateValue
+      turn-keeps N σ bytes n b known tested good joined room =
+          let vs = values N σ [] (gatesOf t k) in
+          let formed = tested .formed good in
+          known-next N σ t bytes k b room known
+          (joined .value (referenceValue N σ vs (g .left)) (referenceValue N σ vs (g .right)) (known .byte (g .left) (formed .1)) (known .byte (g .right) (formed .2))
+          ∙ ap (λ (f : Gate). digit (gateValue N σ vs f)) (gate-formed (formed .0)))
 
-  pub turn-passes : Passed (gatesTests N t k) → r .number ≡ 0 → Passed (gatesTests N t (k + 1))
-  turn-passes before good = gates-next N t k before (sym (turn-answer .number) ∙ good)
-
-  pub turn-keeps : r .number ≡ 0 → gateReference N k < length bytes
-      → Known N (has assignment) (values N (has assignment) [] (gatesOf t (k + 1))) (k + 1) (set bytes (gateReference N k) (r .value))
-  turn-keeps good l =
-      known-next N (has assignment) t bytes k (r .value) l known
-      (turn-answer .value
-      ∙ answer-value (firstFailed (gateTests N t k)) (gateValue N (has assignment) (values N (has assignment) [] (gatesOf t k)) (gateAt t k)) (sym (turn-answer .number) ∙ good))
+-- a turn of the loop over the gates, by the number of gate k
+pub turn-stops : (N : ℕ) (assignment t bytes : List ℕ) (k n : ℕ) → k < records 8 t → Passed (gatesTests N t k) → n ≡ firstFailed (gateTests N t k) .number → (n ≡ 0 → ⊥)
+    → Ran N assignment t bytes (record { number = n; place = k })
+turn-stops N assignment t bytes k n l before e bad =
+    let more : suc (k + (length t / 8 - suc k)) ≡ length t / 8 = omega arith in
+    let stop = gates-stop N t k (length t / 8 - suc k) (length t / 8) more before (λ z. bad (e ∙ z)) in
+    let place = refused-place k (gateTests N t k) (gate-placed (gateReference N k) t k) (λ z. bad (e ∙ z)) in
+    record {
+      number = e ∙ sym (ap (λ (v : Verdict). v .number) stop);
+      place = sym (ap (λ (v : Verdict). v .place) stop ∙ place);
+      kept = λ z. absurd (bad z);
+    }
 
 pub all-turned : (N : ℕ) (assignment t bytes : List ℕ) (k : ℕ) → k ≡ records 8 t → Passed (gatesTests N t k)
     → Known N (has assignment) (values N (has assignment) [] (gatesOf t k)) k bytes → Ran N assignment t bytes (record { number = 0; place = 0 })

@@ -50,28 +50,16 @@ module _ (h most : ℕ) (assignment t : List ℕ) (root : ℕ) where
   unfolding evaluationTests
   lengths-refuse n = after-refused (lengthTests h most assignment t) (gatesTests (8 * h) t (records 8 t) ++ referenceTests (8 * h) root (records 8 t)) n
 
-  module _ (lengths : Passed (lengthTests h most assignment t)) where
-    -- of gate k, where the gates before it pass
-    pub gate-refuses : (k more : ℕ) → suc (k + more) ≡ records 8 t → Passed (gatesTests (8 * h) t k) → (firstFailed (gateTests (8 * h) t k) .number ≡ 0 → ⊥)
-        → firstFailed (evaluationTests h most assignment t root) ≡ firstFailed (gateTests (8 * h) t k)
-    unfolding evaluationTests
-    gate-refuses k more e before n =
-        let N = 8 * h in
-        let last = referenceTests N root (records 8 t) in
-        let split = tests-split N t k more in
-        after-passed (lengthTests h most assignment t) (gatesTests N t (records 8 t) ++ last) lengths
-        ∙ ap (λ (ts : List Test). firstFailed (ts ++ last)) (ap (gatesTests N t) (sym e) ∙ split .1)
-        ∙ ap firstFailed (append-assoc (gatesTests N t k) (gateTests N t k ++ split .0) last)
-        ∙ after-passed (gatesTests N t k) (gateTests N t k ++ split .0 ++ last) before
-        ∙ ap firstFailed (append-assoc (gateTests N t k) (split .0) last)
-        ∙ after-refused (gateTests N t k) (split .0 ++ last) n
+  -- and where no length is refused, what lies behind
+  pub lengths-pass : Passed (lengthTests h most assignment t)
+      → firstFailed (evaluationTests h most assignment t root) ≡ firstFailed (gatesTests (8 * h) t (records 8 t) ++ referenceTests (8 * h) root (records 8 t))
+  unfolding evaluationTests
+  lengths-pass = after-passed (lengthTests h most assignment t) (gatesTests (8 * h) t (records 8 t) ++ referenceTests (8 * h) root (records 8 t))
 
-    -- of the root, where all gates pass
-    pub root-decides : Passed (gatesTests (8 * h) t (records 8 t)) → firstFailed (evaluationTests h most assignment t root) ≡ firstFailed (referenceTests (8 * h) root (records 8 t))
-    unfolding evaluationTests
-    root-decides before =
-        after-passed (lengthTests h most assignment t) (gatesTests (8 * h) t (records 8 t) ++ referenceTests (8 * h) root (records 8 t)) lengths
-        ∙ after-passed (gatesTests (8 * h) t (records 8 t)) (referenceTests (8 * h) root (records 8 t)) before
+-- of the root, where all gates pass
+pub root-decides : (N : ℕ) (t : List ℕ) (root : ℕ) → Passed (gatesTests N t (records 8 t))
+    → firstFailed (gatesTests N t (records 8 t) ++ referenceTests N root (records 8 t)) ≡ firstFailed (referenceTests N root (records 8 t))
+root-decides N t root = after-passed (gatesTests N t (records 8 t)) (referenceTests N root (records 8 t))
 
 -- formed gates pass their tests
 pub form-passed : (N k : ℕ) (g : Gate) → Formed N k g → Passed (formTests (gateReference N k) k g)

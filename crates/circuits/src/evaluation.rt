@@ -7,7 +7,7 @@ ghost use Prim.Native.Nat.{_+_, _*_, _/_, _<_, _≤_};
 ghost use lib.ListN.{length};
 ghost use Rattle.records.specs.Step.{pairAt};
 ghost use Rattle.circuits.specs.Evaluate.{gateEvaluated, evaluated, Evaluates};
-ghost use Rattle.circuits.specs.EvaluateInside.{lengthNumber, GateRead, Rows, RowFilled, Filled, recordEvaluated, Ran};
+ghost use Rattle.circuits.specs.EvaluateInside.{lengthNumber, OrOf, FormTested, Joined, GateRead, Rows, RowFilled, Filled, Room, Ran, evaluatedWithin};
 
 // A refusal's number and place with value 0, or 0, 0 and the value, 0 or 1.
 #[repr(C)]
@@ -28,35 +28,57 @@ fn refuse(number: usize, place: usize) -> Evaluated
     }
 }
 
-// A gate's numbers, and whether its spare bytes are zero.
+// A gate's bytes as four numbers of two bytes. A kind that is 1 or 2 says that byte 1 is zero too.
 struct GateRecord {
     kind: usize,
     left: usize,
     right: usize,
-    spare: bool,
+    tail: usize,
+}
+
+// 0 of AND and 1 of OR; of any other kind more than 1, since 0 wraps to the largest number. So one test serves all other kinds.
+fn or_of(kind: usize) -> usize
+    ensures { λ r. ⌜ OrOf kind r ⌝ }
+{
+    std::num::wrapping_sub_usize(kind, 1)
+}
+
+// Tests 22 and 23 of a gate whose own reference is given: the number of the refusal, or 0.
+fn test_gate(or: usize, left: usize, right: usize, own: usize) -> usize
+    ensures { λ r. ⌜ FormTested or left right own r ⌝ }
+{
+    if 1 < or {
+        return 22;
+    }
+    if own <= left {
+        return 23;
+    }
+    if own <= right {
+        return 23;
+    }
+    0
+}
+
+// The value of a gate from those of its inputs, each 0 or 1. A branch on the kind would be guessed wrong half of the time: half of the sum
+// is the AND, and with one more it is the OR.
+fn gate_value(or: usize, first: u8, second: u8) -> u8
+    requires { ⌜ (or ≤ 1) × (first ≤ 1) × (second ≤ 1) ⌝ }
+    ensures { λ r. ⌜ Joined or first second r ⌝ }
+{
+    (first + second + (or as u8)) / 2
 }
 
 // One gate on plain numbers, gate k, behind the references whose values are given, a byte each, of which the lowest bit counts: the gate's
-// own reference is their number. 22 by kind, 23, or the gate's value. A branch on the kind would be guessed wrong half of the time: half
-// the kind, 0 or 1, lets the OR through.
+// own reference is their number. 22 by kind, 23, or the gate's value.
 pub fn evaluate_gate(kind: usize, left: usize, right: usize, k: usize, values: &[u8]) -> Evaluated
     ensures { λ r. ⌜ Evaluates (gateEvaluated (now (values .entry)) k (record { kind = kind; left = left; right = right })) r ⌝ }
 {
-    if kind < 1 {
-        return refuse(22, k);
+    let or = or_of(kind);
+    let number = test_gate(or, left, right, values.len());
+    if number != 0 {
+        return refuse(number, k);
     }
-    if 2 < kind {
-        return refuse(22, k);
-    }
-    if values.len() <= left {
-        return refuse(23, k);
-    }
-    if values.len() <= right {
-        return refuse(23, k);
-    }
-    let first = values[left] as usize;
-    let second = values[right] as usize;
-    let value = ((first & second) | ((first | second) & (kind / 2))) % 2;
+    let value = gate_value(or, values[left] % 2, values[right] % 2) as usize;
     Evaluated {
         number: 0,
         place: 0,
@@ -78,32 +100,16 @@ fn read_gate(table: &[u8], k: usize) -> GateRecord
     ensures { λ r. ⌜ GateRead (now (table .entry)) k r ⌝ }
 {
     let at = 8 * k;
-    let kind = table[at] as usize;
+    let kind = pair(table, at);
     let left = pair(table, at + 2);
     let right = pair(table, at + 4);
-    let tail = table[at + 1] | table[at + 6] | table[at + 7];
+    let tail = pair(table, at + 6);
     GateRecord {
         kind,
         left,
         right,
-        spare: tail == 0,
+        tail,
     }
-}
-
-// Gate k of a table that has it, behind references whose values are kept.
-fn evaluate_record(table: &[u8], k: usize, values: &[u8]) -> Evaluated
-    requires { ⌜ 8 * k + 8 ≤ length (now table) ⌝ }
-    ensures { λ r. ⌜ Evaluates (recordEvaluated (now (table .entry)) k (now (values .entry))) r ⌝ }
-{
-    let gate = read_gate(table, k);
-    let kind = gate.kind;
-    let left = gate.left;
-    let right = gate.right;
-    let spare = gate.spare;
-    if !spare {
-        return refuse(22, k);
-    }
-    evaluate_gate(kind, left, right, k, values)
 }
 
 // The values of the two literals of each of four variables, a row for each way their bits can be.
@@ -180,7 +186,7 @@ fn evaluate_gates(
     table: &[u8],
     values: &mut [u8],
 ) -> records::Verdict
-    requires { ⌜ (half ≤ 64) × (half ≤ length (now assignment)) × (2 + 16 * half + length (now table) / 8 ≤ length (now values)) ⌝ }
+    requires { ⌜ Room half (now assignment) (now table) (now values) ⌝ }
     ensures { λ r. ⌜ Ran (8 * half) (now (assignment .entry)) (now (table .entry)) (now (values .exit)) r ⌝ }
 {
     fill_literals(half, assignment, values);
@@ -189,14 +195,22 @@ fn evaluate_gates(
     let mut k: usize = 0;
     while k < count {
         let own = first + k;
-        let gate = evaluate_record(table, k, &values[..own]);
-        let number = gate.number;
-        let place = gate.place;
-        let value = gate.value;
-        if number != 0 {
-            return records::Verdict { number, place };
+        let gate = read_gate(table, k);
+        let left = gate.left;
+        let right = gate.right;
+        let tail = gate.tail;
+        if tail != 0 {
+            return records::Verdict {
+                number: 22,
+                place: k,
+            };
         }
-        values[own] = value as u8;
+        let or = or_of(gate.kind);
+        let number = test_gate(or, left, right, own);
+        if number != 0 {
+            return records::Verdict { number, place: k };
+        }
+        values[own] = gate_value(or, values[left], values[right]);
         k += 1;
     }
     records::Verdict {
@@ -221,22 +235,17 @@ fn test_lengths(half: usize, most: usize, assignment: &[u8], table: &[u8]) -> us
     0
 }
 
-// A table of at most so many gates, where there is a value to keep for each reference.
+// Behind the tests of the lengths: the gates, and the root.
 fn evaluate_halves(
     half: usize,
-    most: usize,
     assignment: &[u8],
     table: &[u8],
     root: usize,
     values: &mut [u8],
 ) -> Evaluated
-    requires { ⌜ (half ≤ 64) × (2 + 16 * half + most ≤ length (now values)) ⌝ }
-    ensures { λ r. ⌜ Evaluates (evaluated half most (now (assignment .entry)) (now (table .entry)) root) r ⌝ }
+    requires { ⌜ Room half (now assignment) (now table) (now values) ⌝ }
+    ensures { λ r. ⌜ Evaluates (evaluatedWithin half (now (assignment .entry)) (now (table .entry)) root) r ⌝ }
 {
-    let lengths = test_lengths(half, most, assignment, table);
-    if lengths != 0 {
-        return refuse(lengths, 0);
-    }
     let ran = evaluate_gates(half, assignment, table, values);
     let number = ran.number;
     let place = ran.place;
@@ -254,11 +263,36 @@ fn evaluate_halves(
     }
 }
 
+// A table of at most a page, 512 gates: most circuits are that small, and fewer values are to be cleared. The two arrays stand in two
+// functions, so that they share a place on the stack.
+fn evaluate_page(assignment: &[u8], table: &[u8], root: usize) -> Evaluated
+    requires { ⌜ (length (now assignment) ≡ 32) × (length (now table) ≤ 8 * 512) ⌝ }
+    ensures { λ r. ⌜ Evaluates (evaluatedWithin 32 (now (assignment .entry)) (now (table .entry)) root) r ⌝ }
+{
+    let mut values = [0u8; 1026];
+    evaluate_halves(32, assignment, table, root, &mut values)
+}
+
+// A table of at most 3,072 gates.
+fn evaluate_pages(assignment: &[u8], table: &[u8], root: usize) -> Evaluated
+    requires { ⌜ (length (now assignment) ≡ 32) × (length (now table) ≤ 8 * 3072) ⌝ }
+    ensures { λ r. ⌜ Evaluates (evaluatedWithin 32 (now (assignment .entry)) (now (table .entry)) root) r ⌝ }
+{
+    let mut values = [0u8; 3586];
+    evaluate_halves(32, assignment, table, root, &mut values)
+}
+
 // A gate table of at most 3,072 gates at a root reference, under an assignment of 32 bytes: 20, 21, gate by gate 22 and 23, and 24; or the
 // root's value. The root may be as large as a usize gets.
 pub fn evaluate(assignment: &[u8], table: &[u8], root: usize) -> Evaluated
     ensures { λ r. ⌜ Evaluates (evaluated 32 3072 (now (assignment .entry)) (now (table .entry)) root) r ⌝ }
 {
-    let mut values = [0u8; 3586];
-    evaluate_halves(32, 3072, assignment, table, root, &mut values)
+    let lengths = test_lengths(32, 3072, assignment, table);
+    if lengths != 0 {
+        return refuse(lengths, 0);
+    }
+    if table.len() <= 4096 {
+        return evaluate_page(assignment, table, root);
+    }
+    evaluate_pages(assignment, table, root)
 }

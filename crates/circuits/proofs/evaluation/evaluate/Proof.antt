@@ -1,20 +1,48 @@
--- `circuits::evaluation::evaluate` meets its contract: the values are 3,586 bytes, one for each of 514 references and 3,072 gates. Assumes nothing.
-use Prim.Native.Nat.{ℕ}
-use mathlib.Core.Path.{sym}
-use lib.ListN.{length-replicate}
+-- `circuits::evaluation::evaluate` meets its contract: the lengths, and behind them what the gates and the root give. Assumes nothing.
+use mathlib.Core.Path.{sym, _∙_}
 use native.Mathlib.Omega.{arith}
+use borrow.Author.Needs.{needs}
+use Rattle.circuits.proofs.EvaluateInsideLaws.{lengths-size, lengths-few, evaluated-lengths, evaluated-within}
 use Rattle.circuits.proofs.evaluation.evaluate.Statement.{statement}
 use Rattle.circuits.proofs.evaluation.evaluate.Tie as tie
 
-slice-aggregate-evaluate-halves : tie.Need-slice-aggregate-evaluate-halves
-slice-aggregate-evaluate-halves c = sym (length-replicate {A = ℕ} 3586 0)
+test-lengths-requires : tie.Need-test-lengths-requires
+test-lengths-requires c κs = search needs
 
-evaluate-halves-requires : tie.Need-evaluate-halves-requires
-evaluate-halves-requires c κs = (omega arith, omega (arith, length-replicate {A = ℕ} 3586 0))
+refuse-requires : tie.Need-refuse-requires
+refuse-requires c κs = search needs
 
 returns : tie.Need-returns
-returns c = c .before .evaluate-halves .ensures
+returns c = rw (c .refuse .ensures) (evaluated-lengths _ _ _ _ _ _ (c .before .before .test-lengths .ensures) (c .before .if1 .taken))
+
+evaluate-page-requires : tie.Need-evaluate-page-requires
+evaluate-page-requires c κs =
+    let good = sym (c .before .if1 .left) ∙ (c .before .before .test-lengths) .ensures in
+    (lengths-size _ _ _ _ good, omega arith)
+
+returns-2 : tie.Need-returns-2
+returns-2 c =
+    let good = sym (c .before .before .if1 .left) ∙ (c .before .before .before .test-lengths) .ensures in
+    rw (evaluated-within _ _ _ _ _ good) (c .evaluate-page .ensures)
+
+evaluate-pages-requires : tie.Need-evaluate-pages-requires
+evaluate-pages-requires c κs =
+    let good = sym (c .before .if1 .left) ∙ (c .before .before .test-lengths) .ensures in
+    (lengths-size _ _ _ _ good, lengths-few _ _ _ _ good)
+
+returns-3 : tie.Need-returns-3
+returns-3 c =
+    let good = sym (c .before .before .if1 .left) ∙ (c .before .before .before .test-lengths) .ensures in
+    rw (evaluated-within _ _ _ _ _ good) (c .evaluate-pages .ensures)
 
 pub evaluate-spec : {M : Type 1} → statement M
 evaluate-spec =
-    tie.close (tie.spec slice-aggregate-evaluate-halves evaluate-halves-requires returns)
+    tie.close
+    (tie.spec
+    test-lengths-requires
+    refuse-requires
+    returns
+    evaluate-page-requires
+    returns-2
+    evaluate-pages-requires
+    returns-3)

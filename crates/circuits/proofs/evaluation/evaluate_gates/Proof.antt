@@ -1,11 +1,10 @@
 -- `circuits::evaluation::evaluate_gates` meets its contract: the values so far are those behind the first k gates. Assumes nothing.
 use Prim.Native.Nat.{_*_, _≤_, _-_}
-use mathlib.Core.Path.{_≡_, refl, sym}
+use mathlib.Core.Path.{_≡_, refl, sym, _∙_}
 use mathlib.Core.List.{[]}
 use native.Mathlib.Omega.{arith}
 use borrow.Author.Needs.{needs}
-use lib.ListN.{length, take, length-set}
-use lib.Seq.{getD-take, length-take-le}
+use lib.ListN.{length, length-set}
 use Rattle.records.specs.Clause.{has}
 use Rattle.records.proofs.TestLaws.{Passed}
 use Rattle.circuits.specs.Reference.{gateReference}
@@ -13,7 +12,7 @@ use Rattle.circuits.specs.Gate.{gatesOf}
 use Rattle.circuits.specs.Value.{values as valuesOf}
 use Rattle.circuits.specs.Evaluate.{gatesTests}
 use Rattle.circuits.specs.EvaluateInside.{Known}
-use Rattle.circuits.proofs.EvaluateInsideLaws.{gates-none, known-none, turn-small, turn-stops, turn-passes, turn-keeps, all-turned}
+use Rattle.circuits.proofs.EvaluateInsideLaws.{gates-none, gates-next, known-none, known-small, tail-refused, record-tested, turn-stops, turn-keeps, all-turned}
 use Rattle.circuits.proofs.evaluation.evaluate_gates.Statement.{statement}
 use Rattle.circuits.proofs.evaluation.evaluate_gates.Tie as tie
 
@@ -45,36 +44,53 @@ loop-holds c = (omega arith, refl, gates-none _ _, known-none _ _ _ _ (c .before
 add-own : tie.Need-add-own Inv-loop μ-loop
 add-own c = omega arith
 
-slice-reshare-prefix-evaluate-record : tie.Need-slice-reshare-prefix-evaluate-record Inv-loop μ-loop
-slice-reshare-prefix-evaluate-record c = omega arith
-
-slice-aggregate-evaluate-record : tie.Need-slice-aggregate-evaluate-record Inv-loop μ-loop
-slice-aggregate-evaluate-record c =
-    let args = c .before .before .before .before .before .before .before .before .before .before .args in
-    let loop = c .before .before .loop in
-    sym (length-take-le (gateReference (8 * args .half) (loop .k)) (loop .values) (omega arith))
-
-evaluate-record-requires : tie.Need-evaluate-record-requires Inv-loop μ-loop
-evaluate-record-requires c κs = omega arith
+read-gate-requires : tie.Need-read-gate-requires Inv-loop μ-loop
+read-gate-requires c κs = omega arith
 
 same-length : tie.Need-same-length Inv-loop μ-loop
 same-length c = search needs
 
 returns : tie.Need-returns Inv-loop μ-loop
 returns c =
-    let args = c .before .before .before .before .before .before .before .before .before .before .before .before .args in
-    let loop = c .before .before .before .before .loop in
-    let gate = c .before .evaluate-record in
-    let own = gateReference (8 * args .half) (loop .k) in
-    turn-stops (8 * args .half) (args .assignment .now) (args .table .now) (loop .values) (take own (loop .values)) (loop .k) (gate .result) (loop .inv .3) (length-take-le own (loop .values) (omega arith)) (λ i l. getD-take own (loop .values) i 0 l) (gate .ensures) _ (c .before .before .before .loop-test .taken) (loop .inv .2) (c .if1 .taken)
+    let args = c .before .before .before .before .before .before .before .before .before .before .before .args in
+    let loop = c .before .before .before .loop in
+    let gate = c .before .read-gate in
+    let N = 8 * args .half in
+    let number = tail-refused (args .table .now) (loop .k) (omega arith) (gate .result) (gate .ensures) (gateReference N (loop .k)) (c .if1 .taken) in
+    turn-stops N (args .assignment .now) (args .table .now) (loop .values) (loop .k) 22 (omega arith) (loop .inv .2) number (λ e. absurd (omega arith))
 
-cast-values : tie.Need-cast-values Inv-loop μ-loop
-cast-values c =
-    let args = c .before .before .before .before .before .before .before .before .before .before .before .before .args in
-    let loop = c .before .before .before .before .loop in
-    let gate = c .before .evaluate-record in
-    let own = gateReference (8 * args .half) (loop .k) in
-    omega (arith, turn-small (8 * args .half) (args .assignment .now) (args .table .now) (loop .values) (take own (loop .values)) (loop .k) (gate .result) (loop .inv .3) (length-take-le own (loop .values) (omega arith)) (λ i l. getD-take own (loop .values) i 0 l) (gate .ensures))
+or-of-requires : tie.Need-or-of-requires Inv-loop μ-loop
+or-of-requires c κs = search needs
+
+test-gate-requires : tie.Need-test-gate-requires Inv-loop μ-loop
+test-gate-requires c κs = search needs
+
+same-length-2 : tie.Need-same-length-2 Inv-loop μ-loop
+same-length-2 c = search needs
+
+returns-2 : tie.Need-returns-2 Inv-loop μ-loop
+returns-2 c =
+    let args = c .before .before .before .before .before .before .before .before .before .before .before .before .before .before .args in
+    let loop = c .before .before .before .before .before .before .loop in
+    let gate = c .before .before .before .before .read-gate in
+    let or = c .before .before .or-of in
+    let tested = c .before .test-gate in
+    let N = 8 * args .half in
+    let own = gateReference N (loop .k) in
+    let number = record-tested (args .table .now) (loop .k) (omega arith) (gate .result) (gate .ensures) (or .result) (or .ensures) own (tested .result) (c .before .before .before .if1 .left) (tested .ensures) in
+    turn-stops N (args .assignment .now) (args .table .now) (loop .values) (loop .k) (tested .result) (omega arith) (loop .inv .2) number (c .if2 .taken)
+
+slice-read-gate-value : tie.Need-slice-read-gate-value Inv-loop μ-loop
+slice-read-gate-value c = omega (arith, c .before .before .test-gate .ensures .formed (c .before .if2 .left))
+
+slice-read-gate-value-2 : tie.Need-slice-read-gate-value-2 Inv-loop μ-loop
+slice-read-gate-value-2 c = omega (arith, c .before .before .before .test-gate .ensures .formed (c .before .before .if2 .left))
+
+gate-value-requires : tie.Need-gate-value-requires Inv-loop μ-loop
+gate-value-requires c κs =
+    let loop = c .before .before .before .before .before .before .before .before .loop in
+    let formed = c .before .before .before .test-gate .ensures .formed (c .before .before .if2 .left) in
+    (formed .0, known-small _ _ _ _ _ (loop .inv .3) _ (formed .1), known-small _ _ _ _ _ (loop .inv .3) _ (formed .2))
 
 slice-write-values : tie.Need-slice-write-values Inv-loop μ-loop
 slice-write-values c = omega arith
@@ -87,21 +103,27 @@ loop-less c = omega arith
 
 loop-again : tie.Need-loop-again Inv-loop μ-loop
 loop-again c =
-    let args = c .before .before .before .before .before .before .before .before .before .before .before .before .args in
-    let loop = c .before .before .before .before .loop in
-    let gate = c .before .evaluate-record in
-    let own = gateReference (8 * args .half) (loop .k) in (
+    let args = c .before .before .before .before .before .before .before .before .before .before .before .before .before .before .before .before .before .args in
+    let loop = c .before .before .before .before .before .before .before .before .before .loop in
+    let gate = c .before .before .before .before .before .before .before .read-gate in
+    let or = c .before .before .before .before .before .or-of in
+    let tested = c .before .before .before .before .test-gate in
+    let value = c .gate-value in
+    let good = c .before .before .before .if2 .left in
+    let N = 8 * args .half in
+    let own = gateReference N (loop .k) in
+    let number = record-tested (args .table .now) (loop .k) (omega arith) (gate .result) (gate .ensures) (or .result) (or .ensures) own (tested .result) (c .before .before .before .before .before .before .if1 .left) (tested .ensures) in (
       omega arith,
       simp length-set (loop .inv .1),
-      turn-passes (8 * args .half) (args .assignment .now) (args .table .now) (loop .values) (take own (loop .values)) (loop .k) (gate .result) (loop .inv .3) (length-take-le own (loop .values) (omega arith)) (λ i l. getD-take own (loop .values) i 0 l) (gate .ensures) (loop .inv .2) (c .if1 .left),
-      turn-keeps (8 * args .half) (args .assignment .now) (args .table .now) (loop .values) (take own (loop .values)) (loop .k) (gate .result) (loop .inv .3) (length-take-le own (loop .values) (omega arith)) (λ i l. getD-take own (loop .values) i 0 l) (gate .ensures) (c .if1 .left) (omega arith),
+      gates-next N (args .table .now) (loop .k) (loop .inv .2) (sym number ∙ good),
+      turn-keeps (args .table .now) (loop .k) (omega arith) (gate .result) (gate .ensures) (or .result) (or .ensures) N (has (args .assignment .now)) (loop .values) (tested .result) (value .result) (loop .inv .3) (tested .ensures) good (value .ensures) (omega (arith, loop .inv .1, (c .before .before .before .before .before .before .before .before .before .before .before .values) .given, (c .before .before .before .before .before .before .before .before .before .before .before .before .before .before .before .before .before .pre) .references)),
     )
 
-same-length-2 : tie.Need-same-length-2 Inv-loop μ-loop
-same-length-2 c = search needs
+same-length-3 : tie.Need-same-length-3 Inv-loop μ-loop
+same-length-3 c = search needs
 
-returns-2 : tie.Need-returns-2 Inv-loop μ-loop
-returns-2 c = let loop = c .before .loop in all-turned _ _ _ _ (loop .k) (omega arith) (loop .inv .2) (loop .inv .3)
+returns-3 : tie.Need-returns-3 Inv-loop μ-loop
+returns-3 c = let loop = c .before .loop in all-turned _ _ _ _ (loop .k) (omega arith) (loop .inv .2) (loop .inv .3)
 
 pub evaluate-gates-spec : {M : Type 1} → statement M
 evaluate-gates-spec =
@@ -115,15 +137,19 @@ evaluate-gates-spec =
     add-first
     loop-holds
     add-own
-    slice-reshare-prefix-evaluate-record
-    slice-aggregate-evaluate-record
-    evaluate-record-requires
+    read-gate-requires
     same-length
     returns
-    cast-values
+    or-of-requires
+    test-gate-requires
+    same-length-2
+    returns-2
+    slice-read-gate-value
+    slice-read-gate-value-2
+    gate-value-requires
     slice-write-values
     add-k
     loop-less
     loop-again
-    same-length-2
-    returns-2)
+    same-length-3
+    returns-3)
