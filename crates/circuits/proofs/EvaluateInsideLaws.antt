@@ -6,7 +6,7 @@ use mathlib.Core.List.{List, [], _∷_, _++_}
 use native.Mathlib.Nat.{zero-add}
 use native.Mathlib.Decide.{decLt}
 use native.Mathlib.Omega.{arith}
-use borrow.Author.Tests.{eq-eqb, ne-eqb, eqb-true, eqb-false, lt-ltb, le-ltb, ltb-true, le-leb, lt-leb, leb-true}
+use borrow.Author.Tests.{eq-eqb, ne-eqb, eqb-true, eqb-false, lt-ltb, le-ltb, le-leb, lt-leb, leb-true}
 use lib.Pow.{shr-shr, field, mod-mod-pow}
 use lib.Dec.{eqb, leb, ltb}
 use lib.ListN.{length, getD, set, replicate, length-set, length-replicate}
@@ -18,7 +18,8 @@ use Rattle.records.specs.Table.{recordAt, records}
 use Rattle.records.specs.Step.{pairAt}
 use Rattle.records.specs.Tests.{Test, test, firstFailed}
 use Rattle.records.proofs.ListLaws.{length-tabulate, tabulate-none, by-truth}
-use Rattle.records.proofs.TestLaws.{Passed, Numbered, Placed, passed-none, none-passed, refused-place, fails, passes, refused-not, refused-is, no-test, passed-append, numbered-append, after-passed, after-refused}
+use Rattle.records.proofs.TestLaws.{Passed, Numbered, Placed, passed-none, none-passed, refused-place, fails, passes, refused-not, refused-is, no-test}
+use Rattle.records.proofs.TestLaws.{passed-append, numbered-append, after-passed, after-refused}
 use Rattle.records.proofs.BitLaws.{low-bit, bit-shifted}
 use Rattle.records.proofs.ClauseLaws.{has-at}
 use Rattle.records.proofs.TableLaws.{byte-recordAt}
@@ -47,13 +48,13 @@ answers-refused ts x n p placed e bad =
       value = sym (ap (λ (b : Bool). cond b 0 (digit x)) (refused-is (firstFailed ts) (λ z. bad (e ∙ z))));
     }
 
-pub answers-value : (ts : List Test) (x r : Bool) → Passed ts → r ≡ x → Evaluates (answered (firstFailed ts) x) (record { number = 0; place = 0; value = digit r })
-answers-value ts x r passed e =
+pub answers-value : (ts : List Test) (x : Bool) → Passed ts → Evaluates (answered (firstFailed ts) x) (record { number = 0; place = 0; value = digit x })
+answers-value ts x passed =
     let none = passed-none ts passed ∙ no-test in
     record {
       number = sym (ap (λ (v : Verdict). v .number) none);
       place = sym (ap (λ (v : Verdict). v .place) none);
-      value = ap digit e ∙ sym (ap (λ (b : Bool). cond b 0 (digit x)) (refused-not (firstFailed ts) (ap (λ (v : Verdict). v .number) none)));
+      value = sym (ap (λ (b : Bool). cond b 0 (digit x)) (refused-not (firstFailed ts) (ap (λ (v : Verdict). v .number) none)));
     }
 
 pub answers-by : (v w : Verdict) (x : Bool) (r : Evaluated) → v ≡ w → Evaluates (answered w x) r → Evaluates (answered v x) r
@@ -79,7 +80,7 @@ form-kind : (own k : ℕ) (g : Gate) → (g .kind ≡ 1 → ⊥) → (g .kind �
 unfolding formTests firstFailed
 form-kind own k g one two = rw (ne-eqb (g .kind) 1 one, ne-eqb (g .kind) 2 two) refl
 
-module _ (or left right own : ℕ) where
+module _ {or left right own : ℕ} where
   pub kind-tested : 1 < or → FormTested or left right own 22
   kind-tested large =
       record {
@@ -103,8 +104,8 @@ module _ (or left right own : ℕ) where
         record { number = λ kind k is. rw (kind-formed kind or is small, lt-ltb left own l, lt-ltb right own r) refl; formed = λ e. (small, l, r) }
 
 -- the value of a gate: half of the sum is the AND, and of one more the OR
-pub half-joins : (or first second : ℕ) → or ≤ 1 → Joined or first second ((first + second + or) / 2)
-half-joins or first second small = record { value = λ x y e f. rw (e, f) (go or x y small) }
+pub half-joins : {or first second : ℕ} → or ≤ 1 → Joined or first second ((first + second + or) / 2)
+half-joins {or} small = record { value = λ x y e f. rw (e, f) (go or x y small) }
   where
     go : (or : ℕ) (x y : Bool) → or ≤ 1 → (digit x + digit y + or) / 2 ≡ digit (kindValue (or + 1) x y)
     go zero true true l = refl
@@ -118,21 +119,21 @@ half-joins or first second small = record { value = λ x y e f. rw (e, f) (go or
     go (suc (suc or)) x y l = absurd (omega arith)
 
 -- one gate on plain numbers
-module _ (bytes : List ℕ) (kind left right k or n : ℕ) (is : OrOf kind or) (tested : FormTested or left right (length bytes) n) where
+module _ (bytes : List ℕ) (k : ℕ) {kind left right or n : ℕ} (is : OrOf kind or) (tested : FormTested or left right (length bytes) n) where
   pub gate-refused : (n ≡ 0 → ⊥) → Evaluates (gateEvaluated bytes k (record { kind = kind; left = left; right = right })) (record { number = n; place = k; value = 0 })
   unfolding gateEvaluated
   gate-refused bad =
       let g : Gate = record { kind = kind; left = left; right = right } in
       answers-refused (formTests (length bytes) k g) (keptValue bytes g) n k (form-placed (length bytes) k g) (tested .number kind k is) bad
 
-  pub gate-valued : n ≡ 0 → (r : ℕ) → Joined or (getD bytes left 0 % 2) (getD bytes right 0 % 2) r
+  pub gate-valued : {r : ℕ} → n ≡ 0 → Joined or (getD bytes left 0 % 2) (getD bytes right 0 % 2) r
       → Evaluates (gateEvaluated bytes k (record { kind = kind; left = left; right = right })) (record { number = 0; place = 0; value = r })
   unfolding gateEvaluated keptAt
-  gate-valued good r joined =
+  gate-valued good joined =
       let g : Gate = record { kind = kind; left = left; right = right } in
       let passed = none-passed (formTests (length bytes) k g) (form-numbered (length bytes) k g) (sym (tested .number kind k is) ∙ good) in
       let valued = joined .value (bitOf (getD bytes left 0) 0) (bitOf (getD bytes right 0) 0) (low-bit (getD bytes left 0)) (low-bit (getD bytes right 0)) in
-      rw (valued, ← is .formed (tested .formed good .0)) (answers-value (formTests (length bytes) k g) (keptValue bytes g) (keptValue bytes g) passed refl)
+      rw (valued, ← is .formed (tested .formed good .0)) (answers-value (formTests (length bytes) k g) (keptValue bytes g) passed)
 
 -- gate k of a table
 pub gate-numbered : (own : ℕ) (t : List ℕ) (k : ℕ) → Numbered (recordTests own t k)
@@ -278,8 +279,8 @@ pub known-none : (N : ℕ) (assignment t bytes : List ℕ) → Filled N assignme
 unfolding gatesOf values
 known-none N assignment t bytes filled = rw (tabulate-none (gateAt t)) (record { byte = λ r l. filled .byte r (omega arith) })
 
-pub known-small : (N : ℕ) (σ : ℕ → Bool) (vs : List Bool) (k : ℕ) (bytes : List ℕ) → Known N σ vs k bytes → (r : ℕ) → r < gateReference N k → getD bytes r 0 ≤ 1
-known-small N σ vs k bytes known r l = rw (known .byte r l) (go (referenceValue N σ vs r))
+pub known-small : {N : ℕ} {σ : ℕ → Bool} {vs : List Bool} {k : ℕ} {bytes : List ℕ} → Known N σ vs k bytes → (r : ℕ) → r < gateReference N k → getD bytes r 0 ≤ 1
+known-small {N} {σ} {vs} known r l = rw (known .byte r l) (go (referenceValue N σ vs r))
   where
     go : (b : Bool) → digit b ≤ 1
     go true = omega arith
@@ -424,7 +425,7 @@ module _ (h : ℕ) (assignment t : List ℕ) (root : ℕ) (bytes : List ℕ) (r 
         let x = value (8 * h) (has assignment) (gatesOf t (records 8 t)) root in
         within-last (record { number = 0; place = 0; value = getD bytes root 0 })
         (rw (ran .kept good .byte root there)
-        (answers-value (referenceTests (8 * h) root (records 8 t)) x x (lt-ltb root (gateReference (8 * h) (records 8 t)) there, tt) refl))
+        (answers-value (referenceTests (8 * h) root (records 8 t)) x (lt-ltb root (gateReference (8 * h) (records 8 t)) there, tt)))
 
 -- an array with a byte for each reference: "so 2 to 513", and one for each gate
 pub array-room : (gates : ℕ) (assignment t : List ℕ) → length assignment ≡ 32 → length t ≤ 8 * gates → Room 32 assignment t (replicate {A = ℕ} (514 + gates) 0)
@@ -468,58 +469,57 @@ module _ (t : List ℕ) (k : ℕ) (inside : 8 * k + 8 ≤ length t) where
       ∙ sym (ap₂ _&&_ (ap (λ (x : ℕ). eqb x 0) (gate-byte 1 (omega arith)))
       (ap (λ (x : ℕ). eqb x 0) (gate-pair 6 (omega arith)) ∙ pair-zero (getD bytes 6 0) (getD bytes 7 0)))
 
-  -- the tests of the record whose numbers were read
-  module _ (g : GateRecord) (read : GateRead t k g) where
-    gate-is : (kind : ℕ) → kind ≡ getD t (8 * k) 0 → record { kind = kind; left = g .left; right = g .right } ≡ gateAt t k
-    gate-is kind e =
-        let same = gate-read (g .left) (g .right) (read .left) (read .right) in
-        λ i. record { kind = (e ∙ same .kind) i; left = same .left i; right = same .right i }
+-- the record whose numbers were read: its tests
+module _ {t : List ℕ} {k : ℕ} {g : GateRecord} (inside : 8 * k + 8 ≤ length t) (read : GateRead t k g) where
+  gate-is : (kind : ℕ) → kind ≡ getD t (8 * k) 0 → record { kind = kind; left = g .left; right = g .right } ≡ gateAt t k
+  gate-is kind e =
+      let same = gate-read t k inside (g .left) (g .right) (read .left) (read .right) in
+      λ i. record { kind = (e ∙ same .kind) i; left = same .left i; right = same .right i }
 
-    pub tail-refused : (own : ℕ) → (g .tail ≡ 0 → ⊥) → 22 ≡ firstFailed (recordTests own t k) .number
-    tail-refused own set =
-        let spare = gate-spare ∙ ap (λ (b : Bool). eqb (getD t (8 * k + 1) 0) 0 && b) (ne-eqb (pairAt t (8 * k + 6)) 0 (λ z. set (read .tail ∙ z))) ∙ and-false (eqb (getD t (8 * k + 1) 0) 0) in
-        sym (ap (λ (v : Verdict). v .number) (fails (spareAt t k) 22 k (formTests own k (gateAt t k)) spare))
+  pub tail-refused : (own : ℕ) → (g .tail ≡ 0 → ⊥) → 22 ≡ firstFailed (recordTests own t k) .number
+  tail-refused own set =
+      let byte = eqb (getD t (8 * k + 1) 0) 0 in
+      let tail = ne-eqb (pairAt t (8 * k + 6)) 0 (λ z. set (read .tail ∙ z)) in
+      sym (ap (λ (v : Verdict). v .number)
+      (fails (spareAt t k) 22 k (formTests own k (gateAt t k)) (gate-spare t k inside ∙ ap (λ (b : Bool). byte && b) tail ∙ and-false byte)))
 
-    -- where byte 1 is set the kind is 256 or more, and no gate's
-    module _ (or : ℕ) (is : OrOf (g .kind) or) where
-      pub record-tested : (own n : ℕ) → g .tail ≡ 0 → FormTested or (g .left) (g .right) own n → n ≡ firstFailed (recordTests own t k) .number
-      record-tested own n clear tested = go (eqb (getD t (8 * k + 1) 0) 0) refl
-        where
-          tail : eqb (pairAt t (8 * k + 6)) 0 ≡ true
-          tail = eq-eqb (pairAt t (8 * k + 6)) 0 (sym (read .tail) ∙ clear)
+  module _ {or : ℕ} (is : OrOf (g .kind) or) where
+    -- where byte 1 is set the kind is 256 or more, and so that of no gate
+    pub record-tested : {own n : ℕ} → g .tail ≡ 0 → FormTested or (g .left) (g .right) own n → n ≡ firstFailed (recordTests own t k) .number
+    record-tested {own} {n} clear tested = go (eqb (getD t (8 * k + 1) 0) 0) refl
+      where
+        tail : eqb (pairAt t (8 * k + 6)) 0 ≡ true
+        tail = eq-eqb (pairAt t (8 * k + 6)) 0 (sym (read .tail) ∙ clear)
 
-          go : (b : Bool) → eqb (getD t (8 * k + 1) 0) 0 ≡ b → n ≡ firstFailed (recordTests own t k) .number
-          go true e =
-              let byte = eqb-true (getD t (8 * k + 1) 0) 0 e in
-              tested .number (g .kind) k is
-              ∙ ap (λ (f : Gate). firstFailed (formTests own k f) .number) (gate-is (g .kind) (omega (arith, read .kind)))
-              ∙ sym (ap (λ (v : Verdict). v .number) (passes (spareAt t k) 22 k (formTests own k (gateAt t k)) (gate-spare ∙ ap₂ _&&_ e tail)))
-          go false e =
-              let byte = eqb-false (getD t (8 * k + 1) 0) 0 e in
-              let f : Gate = record { kind = g .kind; left = g .left; right = g .right } in
-              tested .number (g .kind) k is ∙ form-kind own k f (λ one. byte (omega (arith, read .kind, one))) (λ two. byte (omega (arith, read .kind, two)))
-              ∙ sym (ap (λ (v : Verdict). v .number)
-              (fails (spareAt t k) 22 k (formTests own k (gateAt t k)) (gate-spare ∙ ap (λ (b : Bool). b && eqb (pairAt t (8 * k + 6)) 0) e)))
+        go : (b : Bool) → eqb (getD t (8 * k + 1) 0) 0 ≡ b → n ≡ firstFailed (recordTests own t k) .number
+        go true e =
+            let byte = eqb-true (getD t (8 * k + 1) 0) 0 e in
+            tested .number (g .kind) k is
+            ∙ ap (λ (f : Gate). firstFailed (formTests own k f) .number) (gate-is (g .kind) (omega (arith, read .kind)))
+            ∙ sym (ap (λ (v : Verdict). v .number) (passes (spareAt t k) 22 k (formTests own k (gateAt t k)) (gate-spare t k inside ∙ ap₂ _&&_ e tail)))
+        go false e =
+            let byte = eqb-false (getD t (8 * k + 1) 0) 0 e in
+            let f : Gate = record { kind = g .kind; left = g .left; right = g .right } in
+            tested .number (g .kind) k is ∙ form-kind own k f (λ one. byte (omega (arith, read .kind, one))) (λ two. byte (omega (arith, read .kind, two)))
+            ∙ sym (ap (λ (v : Verdict). v .number)
+            (fails (spareAt t k) 22 k (formTests own k (gateAt t k)) (gate-spare t k inside ∙ ap (λ (b : Bool). b && eqb (pairAt t (8 * k + 6)) 0) e)))
 
-      gate-formed : or ≤ 1 → record { kind = or + 1; left = g .left; right = g .right } ≡ gateAt t k
-      gate-formed small = gate-is (or + 1) (omega (arith, read .kind, is .formed small))
+    -- and the value that is kept for it
+    pub turn-keeps : {N : ℕ} {σ : ℕ → Bool} {bytes : List ℕ} {n b : ℕ} → Known N σ (values N σ [] (gatesOf t k)) k bytes
+        → FormTested or (g .left) (g .right) (gateReference N k) n → n ≡ 0 → Joined or (getD bytes (g .left) 0) (getD bytes (g .right) 0) b → gateReference N k < length bytes
+        → Known N σ (values N σ [] (gatesOf t (k + 1))) (k + 1) (set bytes (gateReference N k) b)
+    unfolding gateValue
+    turn-keeps {N} {σ} {bytes} {n} {b} known tested good joined room =
+        let vs = values N σ [] (gatesOf t k) in
+        let formed = tested .formed good in
+        known-next N σ t bytes k b room known
+        (joined .value (referenceValue N σ vs (g .left)) (referenceValue N σ vs (g .right)) (known .byte (g .left) (formed .1)) (known .byte (g .right) (formed .2))
+        ∙ ap (λ (f : Gate). digit (gateValue N σ vs f)) (gate-is (or + 1) (omega (arith, read .kind, is .formed (formed .0)))))
 
-      -- the value that is kept for it
-      pub turn-keeps : (N : ℕ) (σ : ℕ → Bool) (bytes : List ℕ) (n b : ℕ) → Known N σ (values N σ [] (gatesOf t k)) k bytes → FormTested or (g .left) (g .right) (gateReference N k) n
-          → n ≡ 0 → Joined or (getD bytes (g .left) 0) (getD bytes (g .right) 0) b → gateReference N k < length bytes
-          → Known N σ (values N σ [] (gatesOf t (k + 1))) (k + 1) (set bytes (gateReference N k) b)
-      unfolding gateValue
-      turn-keeps N σ bytes n b known tested good joined room =
-          let vs = values N σ [] (gatesOf t k) in
-          let formed = tested .formed good in
-          known-next N σ t bytes k b room known
-          (joined .value (referenceValue N σ vs (g .left)) (referenceValue N σ vs (g .right)) (known .byte (g .left) (formed .1)) (known .byte (g .right) (formed .2))
-          ∙ ap (λ (f : Gate). digit (gateValue N σ vs f)) (gate-formed (formed .0)))
-
--- a turn of the loop over the gates, by the number of gate k
-pub turn-stops : (N : ℕ) (assignment t bytes : List ℕ) (k n : ℕ) → k < records 8 t → Passed (gatesTests N t k) → n ≡ firstFailed (gateTests N t k) .number → (n ≡ 0 → ⊥)
+-- a turn of the loop over the gates stops at the first that is refused
+pub turn-stops : {N : ℕ} {assignment t bytes : List ℕ} {k n : ℕ} → k < records 8 t → Passed (gatesTests N t k) → n ≡ firstFailed (gateTests N t k) .number → (n ≡ 0 → ⊥)
     → Ran N assignment t bytes (record { number = n; place = k })
-turn-stops N assignment t bytes k n l before e bad =
+turn-stops {N} {assignment} {t} {bytes} {k} l before e bad =
     let more : suc (k + (length t / 8 - suc k)) ≡ length t / 8 = omega arith in
     let stop = gates-stop N t k (length t / 8 - suc k) (length t / 8) more before (λ z. bad (e ∙ z)) in
     let place = refused-place k (gateTests N t k) (gate-placed (gateReference N k) t k) (λ z. bad (e ∙ z)) in

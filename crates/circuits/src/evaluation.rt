@@ -1,7 +1,7 @@
 // Evaluating: one gate on plain numbers, and a gate table under an assignment. It writes nothing but the values it keeps: of a table a
 // byte a reference, so that an input's value is one lookup, whatever the input is.
 //
-// The pieces take the number of variables, or the half, and the slice of values; `evaluate` fixes them.
+// The pieces take the number of variables, or the half, and the slice of values; `evaluate_page` and `evaluate_pages` fix them.
 ghost use mathlib.Core.Path.{_≡_};
 ghost use Prim.Native.Nat.{_+_, _*_, _/_, _<_, _≤_};
 ghost use lib.ListN.{length};
@@ -28,7 +28,7 @@ fn refuse(number: usize, place: usize) -> Evaluated
     }
 }
 
-// A gate's bytes as four numbers of two bytes. A kind that is 1 or 2 says that byte 1 is zero too.
+// A gate's bytes as four numbers of two bytes each. Where byte 1 is set the kind is 256 or more, so the test of the kind is that of byte 1 too.
 struct GateRecord {
     kind: usize,
     left: usize,
@@ -36,7 +36,7 @@ struct GateRecord {
     tail: usize,
 }
 
-// 0 of AND and 1 of OR; of any other kind more than 1, since 0 wraps to the largest number. So one test serves all other kinds.
+// 0 of AND and 1 of OR; of any other kind more than 1, since 0 wraps to the largest number: one test refuses them all.
 fn or_of(kind: usize) -> usize
     ensures { λ r. ⌜ OrOf kind r ⌝ }
 {
@@ -60,7 +60,7 @@ fn test_gate(or: usize, left: usize, right: usize, own: usize) -> usize
 }
 
 // The value of a gate from those of its inputs, each 0 or 1. A branch on the kind would be guessed wrong half of the time: half of the sum
-// is the AND, and with one more it is the OR.
+// is the AND, and half of one more is the OR.
 fn gate_value(or: usize, first: u8, second: u8) -> u8
     requires { ⌜ (or ≤ 1) × (first ≤ 1) × (second ≤ 1) ⌝ }
     ensures { λ r. ⌜ Joined or first second r ⌝ }
@@ -180,6 +180,7 @@ fn fill_literals(half: usize, assignment: &[u8], values: &mut [u8])
 }
 
 // All gates of a table in order, up to the first that is refused; each value is kept. The number of the refusal and its gate, or 0 and 0.
+// What is kept is 0 or 1, so that no lowest bit is taken here.
 fn evaluate_gates(
     half: usize,
     assignment: &[u8],
@@ -263,8 +264,8 @@ fn evaluate_halves(
     }
 }
 
-// A table of at most a page, 512 gates: most circuits are that small, and fewer values are to be cleared. The two arrays stand in two
-// functions, so that they share a place on the stack.
+// A table of at most a page, 4,096 bytes or 512 gates, so that a small circuit has fewer values to clear. The two arrays stand in two
+// functions, so that they share their place on the stack.
 fn evaluate_page(assignment: &[u8], table: &[u8], root: usize) -> Evaluated
     requires { ⌜ (length (now assignment) ≡ 32) × (length (now table) ≤ 8 * 512) ⌝ }
     ensures { λ r. ⌜ Evaluates (evaluatedWithin 32 (now (assignment .entry)) (now (table .entry)) root) r ⌝ }

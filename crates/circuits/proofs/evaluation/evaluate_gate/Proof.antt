@@ -15,9 +15,7 @@ refuse-requires : tie.Need-refuse-requires
 refuse-requires c κs = search needs
 
 returns : tie.Need-returns
-returns c =
-    let tested = c .before .before .test-gate in
-    rw (c .refuse .ensures) (gate-refused _ _ _ _ _ _ _ (c .before .before .before .or-of .ensures) (tested .ensures) (c .before .if1 .taken))
+returns c = rw (c .refuse .ensures) (gate-refused _ _ (c .before .before .before .or-of .ensures) (c .before .before .test-gate .ensures) (c .before .if1 .taken))
 
 shared-slice-read-gate-value : tie.Need-shared-slice-read-gate-value
 shared-slice-read-gate-value c = omega (arith, c .before .before .test-gate .ensures .formed (c .before .if1 .left))
@@ -33,8 +31,9 @@ cast-value c = search needs
 
 returns-2 : tie.Need-returns-2
 returns-2 c =
-    let tested = c .before .before .before .before .test-gate in
-    gate-valued _ _ _ _ _ _ _ (c .before .before .before .before .before .or-of .ensures) (tested .ensures) (c .before .before .before .if1 .left) _ (c .gate-value .ensures)
+    let or = c .before .before .before .before .before .or-of .ensures in
+    let tested = c .before .before .before .before .test-gate .ensures in
+    gate-valued _ _ or tested (c .before .before .before .if1 .left) (c .gate-value .ensures)
 
 pub evaluate-gate-spec : {M : Type 1} → statement M
 evaluate-gate-spec =

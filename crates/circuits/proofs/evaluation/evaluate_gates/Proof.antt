@@ -1,5 +1,5 @@
 -- `circuits::evaluation::evaluate_gates` meets its contract: the values so far are those behind the first k gates. Assumes nothing.
-use Prim.Native.Nat.{_*_, _≤_, _-_}
+use Prim.Native.Nat.{_+_, _-_, _*_, _≤_, _<_}
 use mathlib.Core.Path.{_≡_, refl, sym, _∙_}
 use mathlib.Core.List.{[]}
 use native.Mathlib.Omega.{arith}
@@ -54,10 +54,9 @@ returns : tie.Need-returns Inv-loop μ-loop
 returns c =
     let args = c .before .before .before .before .before .before .before .before .before .before .before .args in
     let loop = c .before .before .before .loop in
-    let gate = c .before .read-gate in
-    let N = 8 * args .half in
-    let number = tail-refused (args .table .now) (loop .k) (omega arith) (gate .result) (gate .ensures) (gateReference N (loop .k)) (c .if1 .taken) in
-    turn-stops N (args .assignment .now) (args .table .now) (loop .values) (loop .k) 22 (omega arith) (loop .inv .2) number (λ e. absurd (omega arith))
+    let inside : 8 * loop .k + 8 ≤ length (args .table .now) = omega arith in
+    let number = tail-refused inside (c .before .read-gate .ensures) (gateReference (8 * args .half) (loop .k)) (c .if1 .taken) in
+    turn-stops (omega arith) (loop .inv .2) number (λ e. absurd (omega arith))
 
 or-of-requires : tie.Need-or-of-requires Inv-loop μ-loop
 or-of-requires c κs = search needs
@@ -72,13 +71,11 @@ returns-2 : tie.Need-returns-2 Inv-loop μ-loop
 returns-2 c =
     let args = c .before .before .before .before .before .before .before .before .before .before .before .before .before .before .args in
     let loop = c .before .before .before .before .before .before .loop in
-    let gate = c .before .before .before .before .read-gate in
-    let or = c .before .before .or-of in
-    let tested = c .before .test-gate in
-    let N = 8 * args .half in
-    let own = gateReference N (loop .k) in
-    let number = record-tested (args .table .now) (loop .k) (omega arith) (gate .result) (gate .ensures) (or .result) (or .ensures) own (tested .result) (c .before .before .before .if1 .left) (tested .ensures) in
-    turn-stops N (args .assignment .now) (args .table .now) (loop .values) (loop .k) (tested .result) (omega arith) (loop .inv .2) number (c .if2 .taken)
+    let read = c .before .before .before .before .read-gate .ensures in
+    let or = c .before .before .or-of .ensures in
+    let inside : 8 * loop .k + 8 ≤ length (args .table .now) = omega arith in
+    let number = record-tested inside read or (c .before .before .before .if1 .left) (c .before .test-gate .ensures) in
+    turn-stops (omega arith) (loop .inv .2) number (c .if2 .taken)
 
 slice-read-gate-value : tie.Need-slice-read-gate-value Inv-loop μ-loop
 slice-read-gate-value c = omega (arith, c .before .before .test-gate .ensures .formed (c .before .if2 .left))
@@ -90,7 +87,7 @@ gate-value-requires : tie.Need-gate-value-requires Inv-loop μ-loop
 gate-value-requires c κs =
     let loop = c .before .before .before .before .before .before .before .before .loop in
     let formed = c .before .before .before .test-gate .ensures .formed (c .before .before .if2 .left) in
-    (formed .0, known-small _ _ _ _ _ (loop .inv .3) _ (formed .1), known-small _ _ _ _ _ (loop .inv .3) _ (formed .2))
+    (formed .0, known-small (loop .inv .3) _ (formed .1), known-small (loop .inv .3) _ (formed .2))
 
 slice-write-values : tie.Need-slice-write-values Inv-loop μ-loop
 slice-write-values c = omega arith
@@ -103,20 +100,20 @@ loop-less c = omega arith
 
 loop-again : tie.Need-loop-again Inv-loop μ-loop
 loop-again c =
-    let args = c .before .before .before .before .before .before .before .before .before .before .before .before .before .before .before .before .before .args in
+    let start = c .before .before .before .before .before .before .before .before .before .before .before .before .before .before .before .before .before in
+    let given = c .before .before .before .before .before .before .before .before .before .before .before .values .given in
     let loop = c .before .before .before .before .before .before .before .before .before .loop in
-    let gate = c .before .before .before .before .before .before .before .read-gate in
-    let or = c .before .before .before .before .before .or-of in
-    let tested = c .before .before .before .before .test-gate in
-    let value = c .gate-value in
+    let read = c .before .before .before .before .before .before .before .read-gate .ensures in
+    let or = c .before .before .before .before .before .or-of .ensures in
+    let tested = c .before .before .before .before .test-gate .ensures in
+    let clear = c .before .before .before .before .before .before .if1 .left in
     let good = c .before .before .before .if2 .left in
-    let N = 8 * args .half in
-    let own = gateReference N (loop .k) in
-    let number = record-tested (args .table .now) (loop .k) (omega arith) (gate .result) (gate .ensures) (or .result) (or .ensures) own (tested .result) (c .before .before .before .before .before .before .if1 .left) (tested .ensures) in (
+    let inside : 8 * loop .k + 8 ≤ length (start .args .table .now) = omega arith in
+    let room : gateReference (8 * start .args .half) (loop .k) < length (loop .values) = omega (arith, loop .inv .1, given, start .pre .references) in (
       omega arith,
       simp length-set (loop .inv .1),
-      gates-next N (args .table .now) (loop .k) (loop .inv .2) (sym number ∙ good),
-      turn-keeps (args .table .now) (loop .k) (omega arith) (gate .result) (gate .ensures) (or .result) (or .ensures) N (has (args .assignment .now)) (loop .values) (tested .result) (value .result) (loop .inv .3) (tested .ensures) good (value .ensures) (omega (arith, loop .inv .1, (c .before .before .before .before .before .before .before .before .before .before .before .values) .given, (c .before .before .before .before .before .before .before .before .before .before .before .before .before .before .before .before .before .pre) .references)),
+      gates-next _ _ (loop .k) (loop .inv .2) (sym (record-tested inside read or clear tested) ∙ good),
+      turn-keeps inside read or (loop .inv .3) tested good (c .gate-value .ensures) room,
     )
 
 same-length-3 : tie.Need-same-length-3 Inv-loop μ-loop

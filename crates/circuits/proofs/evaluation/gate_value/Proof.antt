@@ -14,9 +14,7 @@ add-result-2 : tie.Need-add-result-2
 add-result-2 c = search needs
 
 returns : tie.Need-returns
-returns c =
-    let args = c .args in
-    half-joins (args .or) (args .first) (args .second) (c .pre .0)
+returns c = half-joins (c .pre .0)
 
 pub gate-value-spec : {M : Type 1} → statement M
 gate-value-spec = tie.close (tie.spec add-result cast-result add-result-2 returns)

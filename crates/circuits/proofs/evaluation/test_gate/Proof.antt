@@ -5,16 +5,16 @@ use Rattle.circuits.proofs.evaluation.test_gate.Statement.{statement}
 use Rattle.circuits.proofs.evaluation.test_gate.Tie as tie
 
 returns : tie.Need-returns
-returns c = kind-tested _ _ _ _ (omega arith)
+returns c = kind-tested (omega arith)
 
 returns-2 : tie.Need-returns-2
-returns-2 c = left-tested _ _ _ _ (omega arith) (omega arith)
+returns-2 c = left-tested (omega arith) (omega arith)
 
 returns-3 : tie.Need-returns-3
-returns-3 c = right-tested _ _ _ _ (omega arith) (omega arith)
+returns-3 c = right-tested (omega arith) (omega arith)
 
 returns-4 : tie.Need-returns-4
-returns-4 c = form-tested _ _ _ _ (omega arith) (omega arith) (omega arith)
+returns-4 c = form-tested (omega arith) (omega arith) (omega arith)
 
 pub test-gate-spec : {M : Type 1} → statement M
 test-gate-spec = tie.close (tie.spec returns returns-2 returns-3 returns-4)
