@@ -427,11 +427,12 @@ module _ (h : ℕ) (assignment t : List ℕ) (root : ℕ) (bytes : List ℕ) (r 
         (rw (ran .kept good .byte root there)
         (answers-value (referenceTests (8 * h) root (records 8 t)) x (lt-ltb root (gateReference (8 * h) (records 8 t)) there, tt)))
 
--- an array with a byte for each reference: "so 2 to 513", and one for each gate
+-- an array of zeros, with a byte for each of the 514 references before the gates and for each gate
 pub array-room : (gates : ℕ) (assignment t : List ℕ) → length assignment ≡ 32 → length t ≤ 8 * gates → Room 32 assignment t (replicate {A = ℕ} (514 + gates) 0)
 array-room gates assignment t size few =
     record { half = omega arith; assigned = omega arith; references = omega (arith, length-replicate {A = ℕ} (514 + gates) 0) }
 
+-- a number of two bytes is zero where both bytes are
 pair-zero : (x y : ℕ) → eqb (x + 256 * y) 0 ≡ (eqb x 0 && eqb y 0)
 pair-zero x y =
     by-truth (eqb (x + 256 * y) 0) (eqb x 0 && eqb y 0)
