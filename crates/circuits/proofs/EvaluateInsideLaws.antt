@@ -1,9 +1,8 @@
 -- The laws for the proofs of the evaluator's functions: each refusal's number and place, and the values that are kept.
 use Prim.Native.Nat.{ℕ, zero, suc, _+_, _-_, _*_, _/_, _%_, _^_, _≤_, _<_}
 use mathlib.Core.Path.{_≡_, refl, sym, ap, ap₂, subst, _∙_}
-use mathlib.Core.Bool.{Bool, true, false, not, _&&_, _||_, cond, true≢false, and-false, and-assoc}
+use mathlib.Core.Bool.{Bool, true, false, not, _&&_, _||_, cond, and-false, and-assoc}
 use mathlib.Core.List.{List, [], _∷_, _++_}
-use native.Mathlib.Nat.{zero-add}
 use native.Mathlib.Decide.{decLt}
 use native.Mathlib.Omega.{arith}
 use borrow.Author.Tests.{eq-eqb, ne-eqb, eqb-true, eqb-false, lt-ltb, le-ltb, le-leb, lt-leb, leb-true}
@@ -17,7 +16,7 @@ use Rattle.records.specs.Clause.{has}
 use Rattle.records.specs.Table.{recordAt, records}
 use Rattle.records.specs.Step.{pairAt}
 use Rattle.records.specs.Tests.{Test, test, firstFailed}
-use Rattle.records.proofs.ListLaws.{length-tabulate, tabulate-none, by-truth}
+use Rattle.records.proofs.ListLaws.{length-tabulate, tabulate-none, by-truth, and-both, holdsFrom, holds-all}
 use Rattle.records.proofs.TestLaws.{Passed, Numbered, Placed, passed-none, none-passed, refused-place, fails, passes, refused-not, refused-is, no-test}
 use Rattle.records.proofs.TestLaws.{passed-append, numbered-append, after-passed, after-refused}
 use Rattle.records.proofs.BitLaws.{low-bit, bit-shifted}
@@ -32,11 +31,6 @@ use Rattle.circuits.specs.Evaluate.{Evaluates, answered, lengthTests, fo
 use Rattle.circuits.specs.EvaluateInside.{lengthNumber, OrOf, FormTested, Joined, GateRead, rowValue, Rows, RowFilled, Filled, Known, Room, Ran, evaluatedWithin}
 use Rattle.circuits.proofs.ValueLaws.{value-positive, value-negative, value-gate, value-earlier, circuit-length}
 use Rattle.circuits.proofs.EvaluateLaws.{values-next, tests-split, lengths-refuse, lengths-pass, root-decides}
-
-pub and-both : (x y : Bool) → (x && y) ≡ true → (x ≡ true) × (y ≡ true)
-and-both true true e = (refl, refl)
-and-both true false e = absurd (true≢false (sym e))
-and-both false y e = absurd (true≢false (sym e))
 
 -- answers: of a refusal, and of a value
 pub answers-refused : (ts : List Test) (x : Bool) (n p : ℕ) → Placed p ts → n ≡ firstFailed ts .number → (n ≡ 0 → ⊥)
@@ -180,23 +174,6 @@ pub filled-start : (N : ℕ) (assignment bytes : List ℕ) → 2 ≤ length byte
 filled-start N assignment bytes room =
     filled-none N assignment (set (set bytes 0 0) 1 1) (getD-set-other (set bytes 0 0) 1 0 1 0 (omega arith) ∙ getD-set-same bytes 0 0 0 (omega arith))
     (getD-set-same (set bytes 0 0) 1 1 0 (omega (arith, length-set bytes 0 0)))
-
--- a test of each member of a list and its place, counted from i, so that the list is computed once
-abbrev pub holdsFrom : {A : Type 0} → (ℕ → A → Bool) → ℕ → List A → Bool
-holdsFrom p i [] = true
-holdsFrom p i (x ∷ xs) = p i x && holdsFrom p (suc i) xs
-
-holds-at : {A : Type 0} (p : ℕ → A → Bool) (d : A) (xs : List A) (i : ℕ) → holdsFrom p i xs ≡ true → (k : ℕ) → k < length xs → p (i + k) (getD xs k d) ≡ true
-holds-at p d [] i e k l = absurd (omega arith)
-holds-at p d (x ∷ xs) i e zero l =
-    let here : i ≡ i + zero = omega arith in
-    subst (λ (j : ℕ). p j x ≡ true) here (and-both (p i x) (holdsFrom p (suc i) xs) e .0)
-holds-at p d (x ∷ xs) i e (suc k) l =
-    let there : suc i + k ≡ i + suc k = omega arith in
-    subst (λ (j : ℕ). p j (getD xs k d) ≡ true) there (holds-at p d xs (suc i) (and-both (p i x) (holdsFrom p (suc i) xs) e .1) k (omega arith))
-
-holds-all : {A : Type 0} (p : ℕ → A → Bool) (d : A) (xs : List A) → holdsFrom p 0 xs ≡ true → (k : ℕ) → k < length xs → p k (getD xs k d) ≡ true
-holds-all p d xs e k l = subst (λ (j : ℕ). p j (getD xs k d) ≡ true) (zero-add k) (holds-at p d xs 0 e k l)
 
 -- the rows, by their rule: sixteen of eight
 abbrev pub rowHolds : ℕ → List ℕ → Bool

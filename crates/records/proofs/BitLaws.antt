@@ -71,11 +71,6 @@ bit-digit = by-digit (λ (u : ℕ). digit (eqb u 1) ≡ u) refl refl
 pub low-bit : (n : ℕ) → n % 2 ≡ digit (bitOf n 0)
 low-bit n = sym (ap digit (bit-zero n) ∙ bit-digit (n % 2) (omega arith))
 
-pub lowest-digit : (b : Bool) → bitOf (digit b) 0 ≡ b
-unfolding bitOf
-lowest-digit true = refl
-lowest-digit false = refl
-
 -- bit k, as a shift gives it
 pub bit-shifted : (n k : ℕ) → eqb (n / 2 ^ k % 2) 1 ≡ bitOf n k
 unfolding bitOf
