@@ -154,8 +154,8 @@ fn take_step(
     )
 }
 
-// All steps in order up to the first that fails. The two arrays for the antecedents' copies serve every step, so that they are
-// cleared once.
+// All steps in order up to the first that fails. The masks and the two arrays for the antecedents' copies serve every step, so that
+// they are laid down once.
 fn run_steps(
     half: usize,
     a: &[u8],
