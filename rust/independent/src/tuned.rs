@@ -302,9 +302,9 @@ pub fn evaluate(assignment: &[u8], table: &[u8], root: usize) -> Evaluated {
     }
     // As much room as is near what is needed: all of it is cleared first.
     match gates.len() {
-        0..=126 => value(assignment, gates, root, &mut [0; 640]),
-        127..=510 => value(assignment, gates, root, &mut [0; 1024]),
-        511..=3072 => value(assignment, gates, root, &mut [0; 514 + 3072]),
+        0..=126 => value(assignment, gates, root, &mut [0; 514 + 126]),
+        127..=512 => value(assignment, gates, root, &mut [0; 514 + 512]),
+        513..=3072 => value(assignment, gates, root, &mut [0; 514 + 3072]),
         _ => Evaluated::refusal(21, 0),
     }
 }
