@@ -78,9 +78,8 @@ loop-again c =
     let loop-test = c .before .before .before .before .before .loop-test in
     let loop = c .before .before .before .before .before .before .loop in
     let args = c .before .before .before .before .before .before .before .before .before .before .before .before .args in
-    let mask =
-        ap (λ (n : ℕ). getD (args .masks .now) (n + loop .i) 0) (mask-start .ensures)
-        ∙ mask-byte (args .half) (args .masks .now) (args .pivot) (loop .i) (pre .0 .2) (pre .0 .1) (loop-test .taken) in (
+    let start = ap (λ (n : ℕ). getD (args .masks .now) (n + loop .i) 0) (mask-start .ensures) in
+    let mask = start ∙ mask-byte (args .half) (args .masks .now) (args .pivot) (loop .i) (pre .0 .2) (pre .0 .1) (loop-test .taken) in (
       omega arith,
       simp (length-set, length-set) (loop .inv .1),
       written-halves (positiveByte (args .left .now) (args .right .now) (args .pivot)) (negativeByte (args .half) (args .left .now) (args .right .now) (args .pivot)) (args .half) (loop .part) (loop .i)
