@@ -135,13 +135,13 @@ fn build(
                 gate(OR, positive + 1, right),
                 gate(AND, next, next + 1),
             ];
-            references[own] = next as u16 + 2;
+            references[own & 1023] = next as u16 + 2;
             next += 3;
             free = rest;
         } else {
             let (row, rest) = free.split_first_mut().expect(ROOM);
             *row = gate(AND + occurs(in_a), left, right);
-            references[own] = next as u16;
+            references[own & 1023] = next as u16;
             next += 1;
             free = rest;
         }
@@ -175,7 +175,10 @@ fn derive<'t>(
     for (own, (step, row)) in (inputs..clauses.len()).zip(steps.iter().zip(work)) {
         let (left, right, pivot, spare) = fields(step);
         let known = &clauses[..own];
-        let (Some(left), Some(right)) = (known.get(left), known.get(right)) else {
+        let Some(left) = known.get(left) else {
+            return Err(refusal(own - inputs, step, known));
+        };
+        let Some(right) = known.get(right) else {
             return Err(refusal(own - inputs, step, known));
         };
         let at = usize::from(pivot / 64);
