@@ -69,8 +69,8 @@ pub(crate) fn resolve_halves(
     masks: &[u8],
     part: &mut [u8],
 )
-    requires half_bound { (half ≤ 64) × (pivot < 8 * half) × Masks half masks.now }
-    requires half_in_bounds { (2 * half ≤ length left.now) × (2 * half ≤ length right.now) × (length part.old ≡ 2 * half) }
+    requires masked { (half ≤ 64) × (pivot < 8 * half) × Masks half masks.now }
+    requires sized { (2 * half ≤ length left.now) × (2 * half ≤ length right.now) × (length part.old ≡ 2 * half) }
     ensures { part.new ≡ resolvent half left.now right.now pivot }
 {
     let from = mask_start(half, pivot);

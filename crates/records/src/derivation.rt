@@ -93,8 +93,8 @@ fn resolve_step(
     second: &mut [u8; 128],
 ) -> usize
     requires sized { Sized half a.now b.now work.old (i + 1) }
-    requires left_bound { (left < inputs half a.now b.now + i) × (right < inputs half a.now b.now + i) }
-    requires first_len { (length first.old ≡ 128) × (length second.old ≡ 128) × Masks half masks.now }
+    requires earlier { (left < inputs half a.now b.now + i) × (right < inputs half a.now b.now + i) }
+    requires arrays { (length first.old ≡ 128) × (length second.old ≡ 128) × Masks half masks.now }
     ensures { StepResolved half a.now b.now left right pivot i work.old work.new result × (length first.new ≡ 128) × (length second.new ≡ 128) }
 {
     fetch(half, a, b, work, left, first);
@@ -120,8 +120,8 @@ fn take_step(
     second: &mut [u8; 128],
 ) -> usize
     requires sized { Sized half a.now b.now work.old (i + 1) }
-    requires own_value { own ≡ inputs half a.now b.now + i }
-    requires first_len { (length first.old ≡ 128) × (length second.old ≡ 128) × Masks half masks.now }
+    requires own_number { own ≡ inputs half a.now b.now + i }
+    requires arrays { (length first.old ≡ 128) × (length second.old ≡ 128) × Masks half masks.now }
     ensures { StepTaken half a.now b.now step i work.old work.new result × (length first.new ≡ 128) × (length second.new ≡ 128) }
 {
     let spare = step.spare;

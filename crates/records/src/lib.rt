@@ -1,6 +1,8 @@
 // The step layer: clause records, the resolution rule, steps, the derivation over a work table, and its root.
 //
 // Every public function is total: it has an answer for tables of any bytes and lengths, and its contract says which.
+#![tactic(auto)]
+
 mod clauses;
 mod derivation;
 mod steps;

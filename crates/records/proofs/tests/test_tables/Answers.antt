@@ -3,13 +3,11 @@ use Prim.Native.Nat.{ℕ, ◌+◌, ◌/◌, ◌%◌}
 use mathlib.Core.Path.{◌≡◌, refl}
 use mathlib.Core.List.{List, [], ◌∷◌}
 use native.Mathlib.Omega.{arith}
-use borrow.Author.Rules.{rules}
 use borrow.Author.Tests.{lt-leb, le-leb, eq-eqb, ne_eqb}
 use lib.Dec.{leb}
 use lib.ListN.{length}
 use Rattle.records.specs.Tests.{test, first_failed, table_tests}
-use Rattle.records.proofs.tests.test_tables.Statement.{statement}
-use Rattle.records.proofs.tests.test_tables.Tie as tie
+use Rattle.records.proofs.tests.test_tables.Goals as goal
 
 -- how many clauses there are, results counted
 abbrev count : List ℕ → List ℕ → List ℕ → ℕ
@@ -21,55 +19,45 @@ past-lengths : (a b steps : List ℕ) → length a % 64 ≡ 0 → length b % 64 
 unfolding table_tests first_failed
 past-lengths a b steps ea eb es = rw (eq-eqb (length a % 64) 0 ea, eq-eqb (length b % 64) 0 eb, eq-eqb (length steps % 8) 0 es) refl
 
-returns : tie.Need-returns
+pub returns-then-a-ne0 : goal.returns-then-a-ne0
 unfolding table_tests first_failed
-returns c =
-    let args = c.before.args in
-    rw (ne_eqb (length args.a.now % 64) 0 (λ e. c.if1.true (omega arith))) (record { number = refl; place = refl })
+returns-then-a-ne0 c =
+    let args = c.args in
+    rw (ne_eqb (length args.a.now % 64) 0 (λ e. c.if-a-ne0.true (omega arith))) (record { number = refl; place = refl })
 
-returns-2 : tie.Need-returns-2
+pub returns-then-b-ne0 : goal.returns-then-b-ne0
 unfolding table_tests first_failed
-returns-2 c =
-    let args = c.before.before.args in
+returns-then-b-ne0 c =
+    let args = c.args in
     rw (
       eq-eqb (length args.a.now % 64) 0 (omega arith),
-      ne_eqb (length args.b.now % 64) 0 (λ e. c.if2.true (omega arith)),
+      ne_eqb (length args.b.now % 64) 0 (λ e. c.if-b-ne0.true (omega arith)),
     ) (record { number = refl; place = refl })
 
-returns-3 : tie.Need-returns-3
+pub returns-then-steps-ne0 : goal.returns-then-steps-ne0
 unfolding table_tests first_failed
-returns-3 c =
-    let args = c.before.before.before.args in
+returns-then-steps-ne0 c =
+    let args = c.args in
     rw (
       eq-eqb (length args.a.now % 64) 0 (omega arith),
       eq-eqb (length args.b.now % 64) 0 (omega arith),
-      ne_eqb (length args.steps.now % 8) 0 (λ e. c.if3.true (omega arith)),
+      ne_eqb (length args.steps.now % 8) 0 (λ e. c.if-steps-ne0.true (omega arith)),
     ) (record { number = refl; place = refl })
 
-add-if4 : tie.Need-overflow-add-if4
-add-if4 c = search rules
-
-add-if4-2 : tie.Need-overflow-add-if4-2
-add-if4-2 c = search rules
-
-returns-4 : tie.Need-returns-4
+pub returns-then-a-b-gt1024 : goal.returns-then-a-b-gt1024
 unfolding first_failed
-returns-4 c =
-    let args = c.before.before.before.before.args in
+returns-then-a-b-gt1024 c =
+    let args = c.args in
     rw (
       past-lengths args.a.now args.b.now args.steps.now (omega arith) (omega arith) (omega arith),
       lt-leb (count args.a.now args.b.now args.steps.now) 1024 (omega arith),
     ) (record { number = refl; place = refl })
 
-returns-5 : tie.Need-returns-5
+pub returns : goal.returns
 unfolding first_failed
-returns-5 c =
-    let args = c.before.before.before.before.args in
+returns c =
+    let args = c.args in
     rw (
       past-lengths args.a.now args.b.now args.steps.now (omega arith) (omega arith) (omega arith),
       le-leb (count args.a.now args.b.now args.steps.now) 1024 (omega arith),
     ) (record { number = refl; place = refl })
-
-pub test-tables-spec : {M : Type 1} → statement M
-test-tables-spec =
-    tie.close (tie.spec returns returns-2 returns-3 add-if4 add-if4-2 returns-4 returns-5)

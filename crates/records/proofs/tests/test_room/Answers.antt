@@ -5,20 +5,16 @@ use mathlib.Core.Path.{refl}
 use native.Mathlib.Omega.{arith}
 use borrow.Author.Tests.{lt-leb, le-leb}
 use Rattle.records.specs.Tests.{first_failed, room_tests}
-use Rattle.records.proofs.tests.test_room.Statement.{statement}
-use Rattle.records.proofs.tests.test_room.Tie as tie
+use Rattle.records.proofs.tests.test_room.Goals as goal
 
-returns : tie.Need-returns
+pub returns-then-work-steps : goal.returns-then-work-steps
 unfolding room_tests first_failed
-returns c =
-    let args = c.before.args in
+returns-then-work-steps c =
+    let args = c.args in
     rw (lt-leb (64 * (length args.steps.now / 8)) (length args.work.now) (omega arith)) (record { number = refl; place = refl })
 
-returns-2 : tie.Need-returns-2
+pub returns : goal.returns
 unfolding room_tests first_failed
-returns-2 c =
-    let args = c.before.args in
+returns c =
+    let args = c.args in
     rw (le-leb (64 * (length args.steps.now / 8)) (length args.work.now) (omega arith)) (record { number = refl; place = refl })
-
-pub test-room-spec : {M : Type 1} → statement M
-test-room-spec = tie.close (tie.spec returns returns-2)

@@ -1,0 +1,24 @@
+-- `records::steps::pair` meets its contract. Assumes nothing.
+use Prim.Native.Nat.{◌+◌}
+use native.Mathlib.Omega.{arith}
+use Rattle.records.proofs.steps.pair.Goals as goal
+
+pub overflow_cast-result : goal.overflow_cast-result
+overflow_cast-result c =
+    let args = c.args in
+    omega (arith, c.type_inv.s args.at)
+
+pub overflow_cast-result-2 : goal.overflow_cast-result-2
+overflow_cast-result-2 c =
+    let args = c.args in
+    omega (arith, c.type_inv.s (args.at + 1))
+
+pub overflow_mul-result : goal.overflow_mul-result
+overflow_mul-result c =
+    let args = c.args in
+    omega (arith, c.type_inv.s (args.at + 1))
+
+pub overflow_add-result-2 : goal.overflow_add-result-2
+overflow_add-result-2 c =
+    let args = c.args in
+    omega (arith, c.type_inv.s args.at, c.type_inv.s (args.at + 1))
