@@ -99,8 +99,8 @@ impl Builder {
         right: usize,
         own: usize,
     ) -> Builder
-        requires next_in_bounds { (8 * self.next + 24 ≤ length gates.old) × (self.next < 4000) × (self.step < 1024) × (pivot < 256) }
-        requires left_bound { (left < 1024) × (right < 1024) × (own < 1024) }
+        requires room { (8 * self.next + 24 ≤ length gates.old) × (self.next < 4000) × (self.step < 1024) × (pivot < 256) }
+        requires inside { (left < 1024) × (right < 1024) × (own < 1024) }
         ensures { Turns self gates.old references.old own (emit (plain 256) (symmetric in_a in_b) self.next pivot (slice_index references.old left) (slice_index references.old right)) result gates.new references.new }
     {
         let l = references[left];
@@ -120,8 +120,8 @@ impl Builder {
         b: &[u8],
         inputs: usize,
     ) -> Builder
-        requires next_in_bounds { (8 * self.next + 24 ≤ length gates.old) × (self.next < 4000) × (inputs + self.step < 1024) }
-        requires step_bound { ((step_at steps.now self.step).pivot < 256) × ((step_at steps.now self.step).left < 1024) × ((step_at steps.now self.step).right < 1024) }
+        requires room { (8 * self.next + 24 ≤ length gates.old) × (self.next < 4000) × (inputs + self.step < 1024) }
+        requires inside { ((step_at steps.now self.step).pivot < 256) × ((step_at steps.now self.step).left < 1024) × ((step_at steps.now self.step).right < 1024) }
         ensures { Turns self gates.old references.old (inputs + self.step) (emit (plain 256) (rule_by 32 a.now b.now (step_at steps.now self.step).pivot) self.next (step_at steps.now self.step).pivot (slice_index references.old (step_at steps.now self.step).left) (slice_index references.old (step_at steps.now self.step).right)) result gates.new references.new }
     {
         let i = self.step;

@@ -153,7 +153,7 @@ fn fill_row(rows: &[[u8; 8]; 16], n: usize, values: &mut [u8], at: usize)
 
 // The values of the literals of byte j of the assignment, behind those of the bytes before it.
 fn fill_byte(variables: usize, assignment: &[u8], j: usize, rows: &[[u8; 8]; 16], values: &mut [u8])
-    requires j_in_bounds { (j < length assignment.now) × (8 * j + 8 ≤ variables) × (variables ≤ 512) × (2 + 2 * variables ≤ length values.old) }
+    requires inside { (j < length assignment.now) × (8 * j + 8 ≤ variables) × (variables ≤ 512) × (2 + 2 * variables ≤ length values.old) }
     requires rows { Rows rows.now × Filled variables assignment.now (8 * j) values.old }
     ensures { Filled variables assignment.now (8 * (j + 1)) values.new }
 {

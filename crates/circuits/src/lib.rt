@@ -1,6 +1,8 @@
 // The gate layer: gate records, the build of a refutation's circuit, the check, and evaluating a gate table under an assignment.
 //
 // Every public function is total: it has an answer for tables of any bytes and lengths, and its contract says which.
+#![tactic(auto)]
+
 mod building;
 mod checking;
 mod evaluation;

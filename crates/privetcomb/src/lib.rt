@@ -1,6 +1,8 @@
 // The boundary to C: check, evaluate and record under names of their own, thin over the two layers, with the promises carried over whole.
 //
 // An exported function can't return a reference, so `privetcomb_record` answers where the record stands in the caller's table.
+#![tactic(auto)]
+
 ghost use Rattle.privetcomb.specs.Part.{PartOf};
 ghost use Rattle.circuits.specs.Check.{plain_checked, Checks};
 ghost use Rattle.circuits.specs.Evaluate.{evaluated, Evaluates};

@@ -1,0 +1,19 @@
+-- `circuits::evaluation::evaluate_gates` meets its contract: the values so far are those behind the first k gates. Assumes nothing.
+use Rattle.std.proofs.Common.{◌≡◌, ◌-◌, ◌*◌, ◌≤◌, [], length}
+use Rattle.records.specs.Clause.{has}
+use Rattle.records.proofs.TestLaws.{Passed}
+use Rattle.circuits.specs.Gate.{gates_of}
+use Rattle.circuits.specs.Value.{values as values_of}
+use Rattle.circuits.specs.Evaluate.{gates_tests}
+use Rattle.circuits.specs.EvaluateInside.{Known}
+use Rattle.circuits.proofs.evaluation.evaluate_gates.Given as goal
+
+abbrev pub invariant-loop-k : goal.invariant-loop-k
+invariant-loop-k l =
+    (l.k ≤ l.count)
+    × (length l.values ≡ length l.initial.values)
+    × Passed (gates_tests (8 * l.half) l.table l.k)
+    × Known (8 * l.half) (has l.assignment) (values_of (8 * l.half) (has l.assignment) [] (gates_of l.table l.k)) l.k l.values
+
+abbrev pub decreases-loop-k : goal.decreases-loop-k
+decreases-loop-k l = l.count - l.k
