@@ -178,7 +178,7 @@ fn build_steps(
     inputs: usize,
 ) -> usize
     requires { Buildable 32 inputs steps.now gates.old × (length references.old ≡ 1024) }
-    ensures { StepsBuilt (built (plain 256) (rule_by 32 a.now b.now) 0 (record { references = take inputs references.entry.now; gates = [] }) (step_at steps.now) (step_count steps.now)) (inputs + step_count steps.now) gates.old result gates.new references.exit.now }
+    ensures { StepsBuilt (built (plain 256) (rule_by 32 a.now b.now) 0 (record { references = take inputs references.old; gates = [] }) (step_at steps.now) (step_count steps.now)) (inputs + step_count steps.now) gates.old result gates.new references.new }
 {
     let n = steps.len() / 8;
     let mut builder = Builder { next: 0, step: 0 };
