@@ -1,4 +1,4 @@
-//! Links the archive of the proved library: from the folder PRIVETCOMB_LIB, or else from target/staticlib at the repository's root.
+//! Links the archive of the proved library: from the folder PRIVETCOMB_LIB, or else from crates/privetcomb/out at the repository's root.
 
 use std::env;
 use std::path::PathBuf;
@@ -9,7 +9,7 @@ const FOLDER: &str = "PRIVETCOMB_LIB";
 fn main() {
     println!("cargo::rerun-if-env-changed={FOLDER}");
     let folder = env::var_os(FOLDER).map_or_else(
-        || PathBuf::from(env!("CARGO_MANIFEST_DIR")).join("../../target/staticlib"),
+        || PathBuf::from(env!("CARGO_MANIFEST_DIR")).join("../../crates/privetcomb/out"),
         PathBuf::from,
     );
     let archive = folder.join("libprivetcomb.a");
@@ -24,7 +24,7 @@ fn main() {
             println!("cargo::metadata=archive={}", archive.display());
         }
         Err(error) => println!(
-            "cargo::error=the proved library is missing: {}: {error}; make it with `rt staticlib privetcomb`, or name its folder in {FOLDER}",
+            "cargo::error=the proved library is missing: {}: {error}; make it with `rt lib` in crates/privetcomb, or name its folder in {FOLDER}",
             archive.display()
         ),
     }

@@ -4,28 +4,40 @@ use crate::evaluations::value;
 use crate::printing::{changed, print, print_gate, print_gates, print_line};
 use crate::tables::{JUNK, check_p1, first, first_mut, p1_steps};
 use circuits::{Answer, check};
+use std::io;
 
-fn print_answer(answer: Answer) {
+fn print_answer(rt: &impl Print, answer: Answer) -> io::Result<()> {
     print(
+        rt,
         b":",
         &[answer.number, answer.place, answer.root, answer.count],
-    );
+    )
 }
 
-fn print_tables(work: &[u8], gates: &[u8], count: usize) {
-    print_gates(gates, count);
-    print_line(b" changed", &[changed(work), changed(gates)]);
+fn print_tables(rt: &impl Print, work: &[u8], gates: &[u8], count: usize) -> io::Result<()> {
+    print_gates(rt, gates, count)?;
+    print_line(rt, b" changed", &[changed(work), changed(gates)])
 }
 
-fn run_p1(steps: &[u8], work: &mut [u8], gates: &mut [u8]) {
+fn run_p1(rt: &impl Print, steps: &[u8], work: &mut [u8], gates: &mut [u8]) -> io::Result<()> {
     let answer = check_p1(steps, work, gates);
-    print_answer(answer);
-    print_tables(work, gates, answer.count);
+    let count = answer.count;
+    print_answer(rt, answer)?;
+    print_tables(rt, work, gates, count)
 }
 
 // P1 with so many bytes of work room, of gate room and of its step table, and with another second step.
-fn p1(work: usize, gates: usize, bytes: usize, left: u8, right: u8, spare: u8) {
+fn p1(
+    rt: &impl Print,
+    work: usize,
+    gates: usize,
+    bytes: usize,
+    left: u8,
+    right: u8,
+    spare: u8,
+) -> io::Result<()> {
     print(
+        rt,
         b"P1",
         &[
             work,
@@ -35,35 +47,36 @@ fn p1(work: usize, gates: usize, bytes: usize, left: u8, right: u8, spare: u8) {
             right as usize,
             spare as usize,
         ],
-    );
+    )?;
     let steps = p1_steps(left, right, spare);
     let mut of_work = [JUNK; 259];
     let mut of_gates = [JUNK; 101];
     run_p1(
+        rt,
         first(&steps, bytes),
         first_mut(&mut of_work, work),
         first_mut(&mut of_gates, gates),
-    );
+    )
 }
 
 // A byte too little for three steps in both tables, in one, and in none; then more than is asked for, and no multiple of a gate's bytes.
-fn rooms() {
-    p1(191, 71, 24, 2, 3, 0);
-    p1(191, 72, 24, 2, 3, 0);
-    p1(192, 71, 24, 2, 3, 0);
-    p1(192, 72, 24, 2, 3, 0);
-    p1(259, 101, 24, 2, 3, 0);
+fn rooms(rt: &impl Print) -> io::Result<()> {
+    p1(rt, 191, 71, 24, 2, 3, 0)?;
+    p1(rt, 191, 72, 24, 2, 3, 0)?;
+    p1(rt, 192, 71, 24, 2, 3, 0)?;
+    p1(rt, 192, 72, 24, 2, 3, 0)?;
+    p1(rt, 259, 101, 24, 2, 3, 0)
 }
 
 // A second step that is refused leaves the first one's result and no gate; too little gate room comes before it. Last, two steps without
 // a root.
-fn refused_steps() {
-    p1(192, 71, 24, 2, 3, 1);
-    p1(192, 72, 24, 5, 2, 1);
-    p1(192, 72, 24, 5, 2, 0);
-    p1(192, 72, 24, 3, 2, 0);
-    p1(192, 72, 24, 2, 2, 0);
-    p1(192, 72, 16, 2, 3, 0);
+fn refused_steps(rt: &impl Print) -> io::Result<()> {
+    p1(rt, 192, 71, 24, 2, 3, 1)?;
+    p1(rt, 192, 72, 24, 5, 2, 1)?;
+    p1(rt, 192, 72, 24, 5, 2, 0)?;
+    p1(rt, 192, 72, 24, 3, 2, 0)?;
+    p1(rt, 192, 72, 24, 2, 2, 0)?;
+    p1(rt, 192, 72, 16, 2, 3, 0)
 }
 
 // {x0, not x0}.
@@ -87,22 +100,23 @@ fn check_signs(a: usize, b: usize, steps: usize, work: &mut [u8], gates: &mut [u
     )
 }
 
-fn signs(a: usize, b: usize, steps: usize) {
-    print(b"signs", &[a, b, steps]);
+fn signs(rt: &impl Print, a: usize, b: usize, steps: usize) -> io::Result<()> {
+    print(rt, b"signs", &[a, b, steps])?;
     let mut work = [JUNK; 100];
     let mut gates = [JUNK; 31];
     let answer = check_signs(a, b, steps, &mut work, &mut gates);
-    print_answer(answer);
-    print_tables(&work, &gates, answer.count);
+    let count = answer.count;
+    print_answer(rt, answer)?;
+    print_tables(rt, &work, &gates, count)
 }
 
 // The fourth is P9. In the last the empty clause of B is the root, and the step has its gate all the same.
-fn lengths() {
-    signs(63, 65, 0);
-    signs(64, 65, 7);
-    signs(64, 64, 7);
-    signs(64, 0, 8);
-    signs(64, 64, 8);
+fn lengths(rt: &impl Print) -> io::Result<()> {
+    signs(rt, 63, 65, 0)?;
+    signs(rt, 64, 65, 7)?;
+    signs(rt, 64, 64, 7)?;
+    signs(rt, 64, 0, 8)?;
+    signs(rt, 64, 64, 8)
 }
 
 // {x0}, and the empty clause.
@@ -122,18 +136,18 @@ fn check_many(bytes: usize, gates: &mut [u8]) -> Answer {
 }
 
 // With gate room for 1,021 too, three gates each: the last gate, then number, place and value of gate 3,060 with all variables true.
-fn many(bytes: usize) {
-    print(b"many", &[bytes]);
+fn many(rt: &impl Print, bytes: usize) -> io::Result<()> {
+    print(rt, b"many", &[bytes])?;
     let mut gates = [JUNK; 24504];
-    print_answer(check_many(bytes, &mut gates));
-    print_gate(&gates, 3062);
-    value(&[255u8; 32], &gates, 3574);
+    print_answer(rt, check_many(bytes, &mut gates))?;
+    print_gate(rt, &gates, 3062)?;
+    value(rt, &[255u8; 32], &gates, 3574)
 }
 
-pub(crate) fn all() {
-    rooms();
-    refused_steps();
-    lengths();
-    many(8168);
-    many(8176);
+pub(crate) fn all(rt: &impl Print) -> io::Result<()> {
+    rooms(rt)?;
+    refused_steps(rt)?;
+    lengths(rt)?;
+    many(rt, 8168)?;
+    many(rt, 8176)
 }

@@ -1,29 +1,29 @@
 // Printing a case's line: a word with numbers behind it, gates, and how many bytes of a lent table changed.
 use crate::tables::JUNK;
 use circuits::Evaluated;
-use io::{print_decimal, write_all};
-use libc::STDOUT_FILENO;
+use std::io;
 
 // The word, and each number with a space in front.
-pub(crate) fn print(word: &[u8], numbers: &[usize]) {
-    write_all(STDOUT_FILENO, word);
+pub(crate) fn print(rt: &impl Print, word: &[u8], numbers: &[usize]) -> io::Result<()> {
+    rt.write_all(word)?;
     let mut i: usize = 0;
     while i < numbers.len() {
-        write_all(STDOUT_FILENO, b" ");
-        print_decimal(STDOUT_FILENO, numbers[i] as u64);
+        rt.write_all(b" ")?;
+        rt.print(numbers[i])?;
         i += 1;
     }
+    Ok(())
 }
 
 // The same, and the line's end.
-pub(crate) fn print_line(word: &[u8], numbers: &[usize]) {
-    print(word, numbers);
-    write_all(STDOUT_FILENO, b"\n");
+pub(crate) fn print_line(rt: &impl Print, word: &[u8], numbers: &[usize]) -> io::Result<()> {
+    print(rt, word, numbers)?;
+    rt.write_all(b"\n")
 }
 
 // Number, place and value end a line.
-pub(crate) fn print_evaluated(got: Evaluated) {
-    print_line(b":", &[got.number, got.place, got.value]);
+pub(crate) fn print_evaluated(rt: &impl Print, got: Evaluated) -> io::Result<()> {
+    print_line(rt, b":", &[got.number, got.place, got.value])
 }
 
 // How many bytes of the table are not the junk.
@@ -44,21 +44,22 @@ fn pair(low: u8, high: u8) -> usize {
 }
 
 // Kind, left and right of gate k. The cases read the bytes here on their own, without the crate that they try.
-pub(crate) fn print_gate(gates: &[u8], k: usize) {
+pub(crate) fn print_gate(rt: &impl Print, gates: &[u8], k: usize) -> io::Result<()> {
     if gates.len() / 8 <= k {
-        return;
+        return Ok(());
     }
     let at = 8 * k;
     let left = pair(gates[at + 2], gates[at + 3]);
     let right = pair(gates[at + 4], gates[at + 5]);
-    print(b",", &[pair(gates[at], 0), left, right]);
+    print(rt, b",", &[pair(gates[at], 0), left, right])
 }
 
 // The first gates, as many as there are said to be.
-pub(crate) fn print_gates(gates: &[u8], count: usize) {
+pub(crate) fn print_gates(rt: &impl Print, gates: &[u8], count: usize) -> io::Result<()> {
     let mut k: usize = 0;
     while k < count {
-        print_gate(gates, k);
+        print_gate(rt, gates, k)?;
         k += 1;
     }
+    Ok(())
 }

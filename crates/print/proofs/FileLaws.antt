@@ -1,12 +1,7 @@
 -- The laws of a file's size: by the tests of the two answers, and within a buffer that has room for one byte more than the limit.
-use Prim.Native.Nat.{ℕ, ◌≤◌}
-use mathlib.Core.Path.{◌≡◌, refl}
-use mathlib.Core.Bool.{Bool, true, false, cond, true≢false}
-use native.Mathlib.Omega.{arith}
-use borrow.Author.Tests.{ltb-true, ltb-false, eq-eqb, ne_eqb}
-use lib.Dec.{eqb}
-use lib.IntN.{ℤ, pos, negsuc}
+use Rattle.std.proofs.Common.{◌≡◌, ℕ, zero, suc, ◌<◌, ◌≤◌, Bool, true, false, cond, eqb, length, List, ℤ, pos, negsuc, refl, sym, ap, ◌∙◌, true≢false, arith, ltb-true, ltb-false, eq-eqb, ne_eqb, length-take-le}
 use lib.Signed.{lt_z}
+use Rattle.std.specs.Counts.{IsPrefixLen}
 use Rattle.print.specs.File.{size_read}
 
 pub not_opened : (longer size : ℕ) (file behind : ℤ) → lt_z file (pos 0) ≡ true → longer ≡ size_read longer file size behind
@@ -41,3 +36,25 @@ size_within most longer size (pos n) (pos more) p q = go (eqb more 0)
     go : (t : Bool) → cond t size longer ≤ most
     go true = q
     go false = p
+
+-- a length within a buffer is that of a prefix of it
+pub prefix_len_of_le : (n : ℕ) (xs : List ℕ) → n ≤ length xs → IsPrefixLen n xs
+prefix_len_of_le n xs h = (h, sym (length-take-le n xs h))
+
+-- the size of a file lies within a buffer that has room for one byte more than the limit
+pub size_prefix : (longer size : ℕ) (file behind : ℤ) (r : ℕ) (xs : List ℕ) → longer ≤ length xs → size ≤ length xs → r ≡ size_read longer file size behind → IsPrefixLen r xs
+size_prefix longer size file behind r xs p q e = prefix_len_of_le r xs (rw e (size_within (length xs) longer size file behind p q))
+
+-- below `longer` there is only what was read to its end
+pub read_to_end : (longer size : ℕ) (file behind : ℤ) (r : ℕ) → r ≡ size_read longer file size behind → r < longer → (behind ≡ pos 0) × (r ≡ size)
+unfolding size_read
+read_to_end longer size (negsuc e) behind r q l = let same : r ≡ longer = q in absurd (omega arith)
+read_to_end longer size (pos n) (negsuc e) r q l = let same : r ≡ longer = q in absurd (omega arith)
+read_to_end longer size (pos n) (pos zero) r q l = (refl, q)
+read_to_end longer size (pos n) (pos (suc more)) r q l =
+    let same : r ≡ longer = q ∙ ap (λ (t : Bool). cond t size longer) (ne_eqb (suc more) 0 (λ e. omega (arith, e))) in absurd (omega arith)
+
+pub read_failed : (longer size : ℕ) (file : ℤ) (e : ℕ) → size_read longer file size (negsuc e) ≡ longer
+unfolding size_read
+read_failed longer size (negsuc f) e = refl
+read_failed longer size (pos n) e = refl

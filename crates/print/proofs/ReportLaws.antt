@@ -5,7 +5,7 @@ use mathlib.Core.List.{List, append-nil}
 use native.Mathlib.Omega.{arith}
 use borrow.Author.Tests.{eq-eqb, ne_eqb, leb-true}
 use lib.ListN.{length, length-replicate}
-use Rattle.io.proofs.Counting.{prefix_len_of_le}
+use Rattle.print.proofs.FileLaws.{prefix_len_of_le}
 use Rattle.records.specs.declared.tests.Verdict.{Verdict}
 use Rattle.records.specs.Tests.{first_failed, Says}
 use Rattle.records.proofs.TestLaws.{Numbered, none_passed}

@@ -1,6 +1,6 @@
 -- The program's text, by the bytes of the three files. A file that can't be read counts as one that is longer: document 01 gives both the same line.
 use Rattle.std.specs.Prelude.{ℕ, ◌≤◌, ◌≡◌, cond, List, [], ◌∷◌, length, replicate, eqb, leb}
-use Rattle.io.specs.Counts.{IsPrefixLen}
+use Rattle.std.specs.Counts.{IsPrefixLen}
 use Rattle.records.specs.declared.tests.Verdict.{Verdict}
 use Rattle.records.specs.Tests.{Test, test, first_failed}
 use Rattle.circuits.specs.Gate.{over}

@@ -38,7 +38,7 @@ pub fn library() -> Outcome<String> {
     }
     Ok(format!(
         "libprivetcomb.a of {} bytes ({}), compiled ahead: `rattle build --help` says at -O3 by clang, for x86-64 \
-         Linux, and `rt staticlib` names it no other level and no processor. {}",
+         Linux, and `rt lib` names it no other level and no processor. {}",
         ARCHIVE.len(),
         logic(ARCHIVE),
         disassembled(path)?,

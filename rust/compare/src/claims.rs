@@ -45,7 +45,7 @@ fn collect(folder: &Path, words: &mut HashSet<String>) {
     };
     for path in entries.flatten().map(|entry| entry.path()) {
         let name = path.file_name().unwrap_or_default().to_string_lossy();
-        if name == "target" {
+        if name == "target" || name == "out" {
             continue;
         }
         let stem = path.file_stem().unwrap_or_default().to_string_lossy();
