@@ -5,7 +5,7 @@ ghost use Rattle.std.specs.Prelude.{◌≡◌, [], ◌∷◌, ◌+◌, ◌*◌, 
 ghost use Rattle.records.specs.Step.{pair_at};
 ghost use Rattle.circuits.specs.Gate.{gate_at};
 ghost use Rattle.print.specs.Decimal.{decimal};
-ghost use Rattle.print.specs.Decimal.{digit as Decimal·digit};
+ghost use Rattle.print.specs.Decimal.{digit as decimal_digit};
 ghost use Rattle.print.specs.Line.{space, ended, line, kind_word, answer_line, gate_line, gate_lines};
 ghost use Rattle.print.specs.Inside.{Writes};
 
@@ -20,7 +20,7 @@ fn write_byte(byte: u8, out: &mut [u8], at: usize) -> usize
 // The ASCII byte of a digit.
 fn digit(d: usize) -> u8
     requires { d < 10 }
-    ensures { result ≡ Decimal·digit d }
+    ensures { result ≡ decimal_digit d }
 {
     48 + d as u8
 }
