@@ -1,6 +1,6 @@
 //! The printing program on files: the listed runs, files that can't be read, and random tables.
 //!
-//! The program is the file PRIVETCOMB_PRINT names, or else target/bin/print at the repository's root.
+//! The program is the file PRIVETCOMB_PRINT names, or else crates/print/out/print at the repository's root.
 
 use std::fs;
 use std::io::Result;
@@ -53,7 +53,7 @@ struct Program {
 impl Program {
     fn new() -> Result<Program> {
         let path = env::var_os("PRIVETCOMB_PRINT")
-            .map_or_else(|| in_repository("target/bin/print"), PathBuf::from);
+            .map_or_else(|| in_repository("crates/print/out/print"), PathBuf::from);
         let folder = Folder::new("printing")?;
         let copy = folder.path().join("print");
         fs::copy(&path, &copy).map_err(|error| {
