@@ -3,6 +3,8 @@
 
 usage: tools/spell_names.py        at the top of the repository, once, after the kit's own script for older repositories
 
+It has run. A second run would turn, as the first did, the printed word P12-spare, which was put back in step_cases and in the pages.
+
 A row is an old name, a tab and the new one. Names turn as whole words: in the .antt and .rt files and the must-fail edits of crates/, and in the
 code spans of the pages. The names of Rust functions have no row and stay.
 """

@@ -24,7 +24,7 @@ fn main() {
             println!("cargo::metadata=archive={}", archive.display());
         }
         Err(error) => println!(
-            "cargo::error=the proved library is missing: {}: {error}; make it with `rt lib` in crates/privetcomb, or name its folder in {FOLDER}",
+            "cargo::error=the proved library is missing: {}: {error}; make it with `rt lib --cpu=x86-64` in crates/privetcomb, or name its folder in {FOLDER}",
             archive.display()
         ),
     }

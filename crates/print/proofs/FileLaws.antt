@@ -53,8 +53,3 @@ read_to_end longer size (pos n) (negsuc e) r q l = let same : r ≡ longer = q i
 read_to_end longer size (pos n) (pos zero) r q l = (refl, q)
 read_to_end longer size (pos n) (pos (suc more)) r q l =
     let same : r ≡ longer = q ∙ ap (λ (t : Bool). cond t size longer) (ne_eqb (suc more) 0 (λ e. omega (arith, e))) in absurd (omega arith)
-
-pub read_failed : (longer size : ℕ) (file : ℤ) (e : ℕ) → size_read longer file size (negsuc e) ≡ longer
-unfolding size_read
-read_failed longer size (negsuc f) e = refl
-read_failed longer size (pos n) e = refl

@@ -1,11 +1,10 @@
 // Reading a file whole.
-ghost use Rattle.std.specs.Prelude.{◌≡◌, ◌<◌, ◌≤◌, ◌<ℤ◌, pos, length, take, IfOk, IfSome};
+ghost use Rattle.std.specs.Prelude.{◌≡◌, ◌<◌, ◌≤◌, ◌<ℤ◌, pos, length, take, IfSome};
 ghost use Rattle.std.specs.Counts.{IsPrefixLen};
 ghost use Rattle.std.specs.Io.KnownBytes.{Consumes, IsAtEnd};
 ghost use Rattle.print.specs.File.{size_read};
 
 use std::fs::File;
-use std::io;
 use std::io::Read;
 use std::rt::Files;
 
@@ -26,22 +25,24 @@ fn file_size(longer: usize, file: i32, size: usize, behind: isize) -> usize
     size
 }
 
-// Reads until the buffer is full or the input ends, and answers how many bytes stand at the buffer's start. The first read that fails
-// ends it, and is not tried again.
-fn read_full<R: Read>(reader: &mut R, to: &mut [u8]) -> io::Result<usize>
-    ensures within { IfOk result (λ n. IsPrefixLen n to.new) }
-    ensures bytes { IfOk result (λ n. Consumes (R.remaining reader.old) (R.remaining reader.new) (take n to.new)) }
-    ensures end { IfOk result (λ n. n < length to.new → IsAtEnd (R.remaining reader.new)) }
+// Reads until the buffer is full, the input ends or a read fails, and answers how many bytes stand at the buffer's start.
+fn read_full<R: Read>(reader: &mut R, to: &mut [u8]) -> usize
+    ensures within { IsPrefixLen result to.new }
+    ensures bytes { Consumes (R.remaining reader.old) (R.remaining reader.new) (take result to.new) }
 {
     let mut done: usize = 0;
     while done < to.len() {
-        let n = reader.read(&mut to[done..])?;
-        if n == 0 {
-            break;
+        match reader.read(&mut to[done..]) {
+            Ok(n) => {
+                if n == 0 {
+                    break;
+                }
+                done += n;
+            }
+            Err(_) => break,
         }
-        done += n;
     }
-    Ok(done)
+    done
 }
 
 // What one more read answers: how many bytes it gives, of one at most, or -1 where it fails.
@@ -56,17 +57,15 @@ fn read_behind<R: Read>(reader: &mut R) -> isize
     }
 }
 
-// Reads what was opened, of at most so many bytes, and answers how many there are. A read that fails on the way counts as one that fails
-// behind the bytes, so within the limit stands only what was read whole.
+// Reads what was opened, of at most so many bytes, and answers how many there are. Within the limit stands only what the read behind the
+// bytes found ended.
 fn read_open<R: Read>(reader: &mut R, limit: usize, to: &mut [u8]) -> usize
     requires { limit < length to.old }
     ensures within { IsPrefixLen result to.new }
     ensures whole { result ≤ limit → IfSome (R.remaining reader.old) (λ xs. take result to.new ≡ xs) }
 {
-    match read_full(reader, to) {
-        Ok(size) => file_size(limit + 1, 0, size, read_behind(reader)),
-        Err(_) => file_size(limit + 1, 0, 0, -1),
-    }
+    let size = read_full(reader, to);
+    file_size(limit + 1, 0, size, read_behind(reader))
 }
 
 // Reads a file of at most so many bytes, and answers how many it has. A file that can't be read or is longer is handed on as one that is

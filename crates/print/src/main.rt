@@ -1,7 +1,8 @@
 // The printing program: it reads a.rec, b.rec and steps.rec from the working directory, and writes their report.
 //
 // No contract of std says which bytes a file gives or a write takes. That these are the files' bytes, and that the report's bytes come
-// out, is left to std; what is decided between the two stands in `files::file_size` and `report::report`.
+// out, is left to std; what is decided between the two stands in `files::file_size`, `files::read_open` and
+// `report::report`.
 #![tactic(auto)]
 
 mod files;

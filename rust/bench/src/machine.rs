@@ -37,8 +37,8 @@ pub fn library() -> Outcome<String> {
         return Err("the archive has changed since it was linked: build again".to_string());
     }
     Ok(format!(
-        "libprivetcomb.a of {} bytes ({}), compiled ahead: `rattle build --help` says at -O3 by clang, for x86-64 \
-         Linux, and `rt lib` names it no other level and no processor. {}",
+        "libprivetcomb.a of {} bytes ({}), compiled ahead: `rattle build --help` says at -O3 by clang, for \
+         Linux, and `rt lib --cpu=x86-64` for every x86-64 processor. {}",
         ARCHIVE.len(),
         logic(ARCHIVE),
         disassembled(path)?,

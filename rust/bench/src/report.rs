@@ -267,7 +267,7 @@ pub fn preface(date: &str, processor: &Processor) -> Outcome<String> {
     let (samples, sample) = (timing::SAMPLES, timing::SAMPLE.as_micros());
     Ok(format!(
         "# What a call costs\n\n\
-         Made on {date} (UTC) by `rt lib` in crates/privetcomb, then `cargo run --release --manifest-path rust/Cargo.toml -p bench`, which needs valgrind \
+         Made on {date} (UTC) by `rt lib --cpu=x86-64` in crates/privetcomb, then `cargo run --release --manifest-path rust/Cargo.toml -p bench`, which needs valgrind \
          and objdump; with `-- --plot` it draws docs/cost.svg too.\n\n\
          - Processor: {processor}.\n\
          - Load over 1, 5 and 15 minutes at the start: {load}.\n\

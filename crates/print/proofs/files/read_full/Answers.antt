@@ -16,10 +16,10 @@ read_more d n k xs ys p q =
 pub loop-done-preserved : goal.loop-done-preserved
 loop-done-preserved g c =
     let known = g.R.Read.remaining in
-    let fits = c.in_ok-n.ensures.bound.0 in
+    let fits = c.in-Ok.ensures.bound.0 in
     record {
       within = search rules;
       bytes =
           subst (Consumes (known c.args.reader.now) (known c.read.new.self)) (sym (read_more _ _ _ c.loop-done.to c.read.new.buf c.loop-done.invariant.within fits))
-          (Consumes-trans (known c.args.reader.now) (known c.loop-done.reader) (known c.read.new.self) _ _ c.loop-done.invariant.bytes c.in_ok-n.ensures.bytes.0);
+          (Consumes-trans (known c.args.reader.now) (known c.loop-done.reader) (known c.read.new.self) _ _ c.loop-done.invariant.bytes c.in-Ok.ensures.bytes.0);
     }
