@@ -6,8 +6,10 @@ use lib.ListN.{length-replicate, get_or-append, get_or-eq_default, get_or-replic
 use lib.Seq.{get_or-append_seam}
 use Rattle.records.specs.declared.steps.Step.{Step}
 use Rattle.circuits.specs.Reference.{positive, negative, gate_reference}
-use Rattle.circuits.specs.Gate.{Gate, and_gate, or_gate}
-use Rattle.circuits.specs.Rule.{Rule, join, meet, both}
+use Rattle.circuits.specs.Gate.{Gate, kind_byte, and_gate, or_gate}
+use Rattle.circuits.specs.declared.rules.Rule.{Rule}
+use Rattle.circuits.specs.declared.kinds.Kind.TheVariants.{And, Or}
+use Rattle.circuits.specs.declared.rules.Rule.TheVariants.{One, Both}
 use Rattle.circuits.specs.Build.{Added, Adding, plain, emit, Build, emitted, advanced, built, input_references}
 
 -- gate k is AND or OR, and its inputs have references below its own: what tests 22 and 23 ask for
@@ -45,22 +47,19 @@ plain_orderly N = record { one = λ n g. omega arith; ordered = λ n g formed. r
 
 -- how many gates a step adds
 abbrev pub gates_of_rule : Rule → ℕ
-gates_of_rule join = 1
-gates_of_rule meet = 1
-gates_of_rule both = 3
+gates_of_rule (One kind) = 1
+gates_of_rule Both = 3
 
 pub plain_count : (N : ℕ) (u : Rule) (n p l r : ℕ) → length (emit (plain N) u n p l r).gates ≡ gates_of_rule u
 unfolding emit
-plain_count N join n p l r = refl
-plain_count N meet n p l r = refl
-plain_count N both n p l r = refl
+plain_count N (One kind) n p l r = refl
+plain_count N Both n p l r = refl
 
 module _ (N : ℕ) (add : Adding) (orderly : Orderly N add) where
   pub emit_few : (u : Rule) (n p l r : ℕ) → length (emit add u n p l r).gates ≤ 3
   unfolding emit
-  emit_few join n p l r = omega (arith, orderly.one n (or_gate l r))
-  emit_few meet n p l r = omega (arith, orderly.one n (and_gate l r))
-  emit_few both n p l r =
+  emit_few (One kind) n p l r = omega (arith, orderly.one n (record { kind = kind_byte kind; left = l; right = r }))
+  emit_few Both n p l r =
       let low = add n (or_gate (positive p) l) in
       let high = add (n + length low.gates) (or_gate (negative p) r) in
       let last = add (n + length low.gates + length high.gates) (and_gate low.reference high.reference) in
@@ -75,21 +74,21 @@ module _ (N : ℕ) (add : Adding) (orderly : Orderly N add) where
 
   pub emit_ordered : (u : Rule) (n p l r : ℕ) → p < N → l < gate_reference N n → r < gate_reference N n → Ordered N n (emit add u n p l r)
   unfolding emit
-  emit_ordered join n p l r small left right = orderly.ordered n (or_gate l r) (refl, left, right)
-  emit_ordered meet n p l r small left right = orderly.ordered n (and_gate l r) (refl, left, right)
-  emit_ordered both n p l r small left right =
+  emit_ordered (One Or) n p l r small left right = orderly.ordered n (or_gate l r) (refl, left, right)
+  emit_ordered (One And) n p l r small left right = orderly.ordered n (and_gate l r) (refl, left, right)
+  emit_ordered Both n p l r small left right =
       let low = add n (or_gate (positive p) l) in
       let high = add (n + length low.gates) (or_gate (negative p) r) in
       let last = add (n + length low.gates + length high.gates) (and_gate low.reference high.reference) in
-      let low-is = orderly.ordered n (or_gate (positive p) l) (refl, omega arith, left) in
+      let low_is = orderly.ordered n (or_gate (positive p) l) (refl, omega arith, left) in
       let high_is = orderly.ordered (n + length low.gates) (or_gate (negative p) r) (refl, omega arith, omega arith) in
-      let last-is =
-      orderly.ordered (n + length low.gates + length high.gates) (and_gate low.reference high.reference) (refl, omega (arith, low-is.below), high_is.below) in
+      let last_is =
+      orderly.ordered (n + length low.gates + length high.gates) (and_gate low.reference high.reference) (refl, omega (arith, low_is.below), high_is.below) in
       record {
         formed =
-            formed_append N n (n + length low.gates) low.gates (high.gates ++ last.gates) refl low-is.formed
-            (formed_append N (n + length low.gates) (n + length low.gates + length high.gates) high.gates last.gates refl high_is.formed last-is.formed);
-        below = omega (arith, last-is.below, length-append low.gates (high.gates ++ last.gates), length-append high.gates last.gates);
+            formed_append N n (n + length low.gates) low.gates (high.gates ++ last.gates) refl low_is.formed
+            (formed_append N (n + length low.gates) (n + length low.gates + length high.gates) high.gates last.gates refl high_is.formed last_is.formed);
+        below = omega (arith, last_is.below, length-append low.gates (high.gates ++ last.gates), length-append high.gates last.gates);
       }
 
 -- a list with one member more
@@ -214,10 +213,10 @@ input_b a b k l =
 
 -- each is 0 or 1
 pub input_either : (P : ℕ → Type 0) → P 0 → P 1 → (a b k : ℕ) → P (get_or (input_references a b) k 0)
-input_either P zero_is one-is a b k =
+input_either P zero_is one_is a b k =
     by_cases (dec_lt k a) (λ l. rw (input_a a b k l) zero_is)
     (λ l.
-    by_cases (dec_lt k (a + b)) (λ m. let e : k ≡ a + (k - a) = omega arith in rw (e, input_b a b (k - a) (omega arith)) one-is)
+    by_cases (dec_lt k (a + b)) (λ m. let e : k ≡ a + (k - a) = omega arith in rw (e, input_b a b (k - a) (omega arith)) one_is)
     (λ m. rw (get_or-eq_default (input_references a b) 0 {n = k} (omega (arith, length_inputs a b))) zero_is))
 
 pub inputs_in_place : (N n a b : ℕ) → InPlace N n (record { references = input_references a b; gates = [] })

@@ -1,12 +1,11 @@
 -- The laws of the plain check: its answer stage by stage, when it accepts, and that the circuit it then leaves is an interpolant of common variables that the evaluator accepts.
 use Rattle.std.proofs.Common.{◌≡◌, ℕ, ◌+◌, ◌*◌, ◌<◌, ◌≤◌, Bool, true, false, cond, eqb, leb, List, [], ◌++◌, length, get_or, take, drop, sym, refl, ap, ◌∙◌, arith, eq-eqb, ne_eqb, eqb-true, le-leb, leb-true}
 use borrow.Author.Tests.{eqb-false, lt-leb}
-use Rattle.records.specs.declared.tests.Verdict.{Verdict}
 use Rattle.records.specs.Bits.{digit}
 use Rattle.records.specs.Clause.{has, empty}
 use Rattle.records.specs.Table.{records}
 use Rattle.records.specs.Step.{step_at, step_count}
-use Rattle.records.specs.Tests.{first_failed, table_tests, room_tests}
+use Rattle.records.specs.Tests.{Verdict, first_failed, table_tests, room_tests}
 use Rattle.records.specs.Derivation.{inputs, clause_at, Outcome, judged, derived, ByRule, clause_count, last_work, Sizes}
 use Rattle.records.proofs.TestLaws.{Passed, Numbered, passed_none, none_passed, fails, tables_numbered, room_numbered}
 use Rattle.records.proofs.AcceptanceLaws.{Accepted, acceptance, accepts}

@@ -4,7 +4,9 @@ use lib.Seq.{get_or-append_seam}
 use Rattle.records.specs.declared.steps.Step.{Step}
 use Rattle.circuits.specs.Reference.{positive, negative, gate_reference}
 use Rattle.circuits.specs.Gate.{Gate, and_gate, or_gate}
-use Rattle.circuits.specs.Rule.{Rule, join, meet, both}
+use Rattle.circuits.specs.declared.rules.Rule.{Rule}
+use Rattle.circuits.specs.declared.kinds.Kind.TheVariants.{And, Or}
+use Rattle.circuits.specs.declared.rules.Rule.TheVariants.{One, Both}
 use Rattle.circuits.specs.Build.{Added, Adding, plain, emit, Build, emitted, built}
 use Rattle.circuits.specs.Value.{reference_value, gate_value, values, value}
 use Rattle.circuits.proofs.ValueLaws.{value_positive, value_negative, value_gate, values_append, length_values, value_stays, circuit_length, circuit_stays}
@@ -12,9 +14,9 @@ use Rattle.circuits.proofs.BuildLaws.{Formed, Orderly, plain_orderly, built_next
 
 -- the truth value that a rule gives, where the pivot has the value x
 abbrev pub rule_value : Rule → Bool → Bool → Bool → Bool
-rule_value join x left right = left || right
-rule_value meet x left right = left && right
-rule_value both x left right = (x || left) && (not x || right)
+rule_value (One Or) x left right = left || right
+rule_value (One And) x left right = left && right
+rule_value Both x left right = (x || left) && (not x || right)
 
 -- what is added behind gates with the values vs has the value x
 abbrev pub Gives : ℕ → (ℕ → Bool) → List Bool → Added → Bool → Type 0
@@ -38,9 +40,9 @@ module _ (N : ℕ) (add : Adding) (faithful : Faithful N add) (σ : ℕ → Bool
   pub emit_gives : (u : Rule) (vs : List Bool) (n p l r : ℕ) → n ≡ length vs → p < N → l < gate_reference N n → r < gate_reference N n
       → Gives N σ vs (emit add u n p l r) (rule_value u (σ p) (reference_value N σ vs l) (reference_value N σ vs r))
   unfolding emit gate_value
-  emit_gives join vs n p l r e small left right = rw e (faithful.gives σ vs (or_gate l r) (refl, omega arith, omega arith))
-  emit_gives meet vs n p l r e small left right = rw e (faithful.gives σ vs (and_gate l r) (refl, omega arith, omega arith))
-  emit_gives both vs n p l r e small left right = rw e all
+  emit_gives (One Or) vs n p l r e small left right = rw e (faithful.gives σ vs (or_gate l r) (refl, omega arith, omega arith))
+  emit_gives (One And) vs n p l r e small left right = rw e (faithful.gives σ vs (and_gate l r) (refl, omega arith, omega arith))
+  emit_gives Both vs n p l r e small left right = rw e all
     where
       low : Added
       low = add (length vs) (or_gate (positive p) l)

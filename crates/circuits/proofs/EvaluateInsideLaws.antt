@@ -1,136 +1,143 @@
 -- The laws for the proofs of the evaluator's functions: each refusal's number and place, and the values that are kept.
-use Rattle.std.proofs.Common.{◌≡◌, ℕ, zero, suc, ◌+◌, ◌-◌, ◌*◌, ◌/◌, ◌%◌, ◌^◌, ◌<◌, ◌≤◌, Bool, true, false, cond, not, ◌&&◌, ◌||◌, eqb, ltb, leb, List, [], ◌∷◌, ◌++◌, length, get_or, set, replicate, sym, refl, ap, ◌∙◌, subst, ap₂, arith, length-set, get_or-set_other, get_or-set_same, shr-shr, le-ltb, lt-ltb, eq-eqb, ne_eqb, eqb-true, le-leb, leb-true}
+use Rattle.std.proofs.Common.{◌≡◌, ℕ, zero, suc, ◌+◌, ◌-◌, ◌*◌, ◌/◌, ◌%◌, ◌^◌, ◌<◌, ◌≤◌, Bool, true, false, cond, not, ◌&&◌, ◌||◌, Result, Ok, Err, eqb, ltb, leb, List, [], ◌∷◌, ◌++◌, length, get_or, set, sym, refl, ap, ◌∙◌, subst, ap₂, arith, length-set, get_or-set_other, get_or-set_same, shr-shr, le-ltb, lt-ltb, eq-eqb, ne_eqb, eqb-true, le-leb, leb-true}
 use mathlib.Core.Bool.{and-false, and_assoc}
 use native.Mathlib.Decide.{dec_lt}
 use borrow.Author.Tests.{eqb-false, lt-leb}
 use lib.Pow.{field, mod-mod-pow}
-use lib.ListN.{length-replicate}
 use lib.Seq.{get_or-append_seam}
-use Rattle.records.specs.declared.tests.Verdict.{Verdict}
 use Rattle.records.specs.Bits.{bit_of, digit}
 use Rattle.records.specs.Clause.{has}
 use Rattle.records.specs.Table.{record_at, records}
 use Rattle.records.specs.Step.{pair_at}
-use Rattle.records.specs.Tests.{Test, test, first_failed}
+use Rattle.records.specs.Tests.{Verdict, test, first_failed}
 use Rattle.records.proofs.ListLaws.{length_tabulate, tabulate_none, by_truth, and_both, holds_from, holds_all}
-use Rattle.records.proofs.TestLaws.{Passed, Numbered, Placed, passed_none, none_passed, refused_place, fails, passes, refused_not, refused_is, no_test}
+use Rattle.records.proofs.TestLaws.{Passed, Numbered, passed_none, none_passed, fails, passes, refused_is, no_test}
 use Rattle.records.proofs.TestLaws.{passed_append, numbered_append, after_passed, after_refused}
 use Rattle.records.proofs.BitLaws.{low_bit, bit_shifted}
 use Rattle.records.proofs.ClauseLaws.{has_at}
 use Rattle.records.proofs.TableLaws.{byte_record_at}
 use Rattle.circuits.specs.declared.evaluation.GateRecord.{GateRecord}
-use Rattle.circuits.specs.declared.evaluation.Evaluated.{Evaluated}
+use Rattle.circuits.specs.declared.evaluation.TheConstants.{ROWS}
+use Rattle.circuits.specs.declared.kinds.Kind.{Kind}
+use Rattle.circuits.specs.declared.kinds.Kind.TheVariants.{And, Or}
+use Rattle.circuits.specs.declared.refusals.GateFault.{GateFault}
+use Rattle.circuits.specs.declared.refusals.GateFault.TheVariants.{Form, InputNotEarlier}
+use Rattle.circuits.specs.declared.refusals.Malformed.{Malformed}
+use Rattle.circuits.specs.declared.refusals.Malformed.TheVariants.{LengthOfAssignment, LengthOfGates, AtGate as AtGate, RootNotThere}
 use Rattle.circuits.specs.Reference.{gate_reference}
-use Rattle.circuits.specs.Gate.{Gate, gate_at, spare_at, gates_of}
+use Rattle.circuits.specs.Malformed.{malformed_number, malformed_place, evaluated_of}
+use Rattle.circuits.specs.Gate.{Gate, kind_byte, gate_at, spare_at, gates_of}
 use Rattle.circuits.specs.Value.{reference_value, kind_value, gate_value, values, value}
 use Rattle.circuits.specs.Evaluate.{Evaluates, answered, length_tests, form_tests, record_tests, gate_tests, gates_tests, reference_tests, kept_at, kept_value, gate_evaluated, evaluation_tests, evaluated}
-use Rattle.circuits.specs.EvaluateInside.{length_number, OrOf, FormTested, Joined, GateRead, row_value, Rows, RowFilled, Filled, Known, Room, Ran, evaluated_within}
+use Rattle.circuits.specs.EvaluateInside.{refusal_verdict, kind_of, GateTested, Joined, GateRead, row_value, RowFilled, Filled, Known, Ran, evaluated_within}
 use Rattle.circuits.proofs.ValueLaws.{value_positive, value_negative, value_gate, value_earlier, circuit_length}
 use Rattle.circuits.proofs.EvaluateLaws.{values_next, tests_split, lengths_refuse, lengths_pass, root_decides}
 
+-- no refusal has the number 0
+malformed_some : (m : Malformed) → malformed_number m ≡ 0 → ⊥
+malformed_some LengthOfAssignment e = omega arith
+malformed_some LengthOfGates e = omega arith
+malformed_some (AtGate Form k) e = omega arith
+malformed_some (AtGate InputNotEarlier k) e = omega arith
+malformed_some RootNotThere e = omega arith
+
 -- answers: of a refusal, and of a value
-pub answers_refused : (ts : List Test) (x : Bool) (n p : ℕ) → Placed p ts → n ≡ (first_failed ts).number → (n ≡ 0 → ⊥)
-    → Evaluates (answered (first_failed ts) x) (record { number = n; place = p; value = 0 })
-answers_refused ts x n p placed e bad =
-    record {
-      number = e;
-      place = sym (refused_place p ts placed (λ z. bad (e ∙ z)));
-      value = sym (ap (λ (b : Bool). cond b 0 (digit x)) (refused_is (first_failed ts) (λ z. bad (e ∙ z))));
-    }
+pub answers_refused : (m : Malformed) (x : Bool) (v : Verdict) → refusal_verdict {A = Bool} (Err m) ≡ v → Evaluates (answered v x) (evaluated_of (Err m))
+answers_refused m x v e =
+    rw (← e)
+    (record { number = refl; place = refl; value = sym (ap (λ (b : Bool). cond b 0 (digit x)) (refused_is (record { number = malformed_number m; place = malformed_place m }) (malformed_some m))) })
 
-pub answers_value : (ts : List Test) (x : Bool) → Passed ts → Evaluates (answered (first_failed ts) x) (record { number = 0; place = 0; value = digit x })
-answers_value ts x passed =
-    let none = passed_none ts passed ∙ no_test in
-    record {
-      number = sym (ap (λ (v : Verdict). v.number) none);
-      place = sym (ap (λ (v : Verdict). v.place) none);
-      value = sym (ap (λ (b : Bool). cond b 0 (digit x)) (refused_not (first_failed ts) (ap (λ (v : Verdict). v.number) none)));
-    }
-
-pub answers_by : (v w : Verdict) (x : Bool) (r : Evaluated) → v ≡ w → Evaluates (answered w x) r → Evaluates (answered v x) r
-answers_by v w x r e a = subst (λ (u : Verdict). Evaluates (answered u x) r) (sym e) a
+pub answers_value : (x : Bool) (v : Verdict) → refusal_verdict (Ok x) ≡ v → Evaluates (answered v x) (evaluated_of (Ok x))
+answers_value x v e = rw (← e) (record { number = refl; place = refl; value = refl })
 
 -- 22 and 23 of a gate on plain numbers
 pub form_numbered : (own k : ℕ) (g : Gate) → Numbered (form_tests own k g)
 unfolding form_tests
 form_numbered own k g = (omega arith, (omega arith, tt))
 
-pub form_placed : (own k : ℕ) (g : Gate) → Placed k (form_tests own k g)
-unfolding form_tests
-form_placed own k g = (refl, (refl, tt))
-
-kind_formed : (kind or : ℕ) → OrOf kind or → or ≤ 1 → (eqb kind 1 || eqb kind 2) ≡ true
-kind_formed kind or is small = go (eqb kind 1) refl
-  where
-    go : (b : Bool) → eqb kind 1 ≡ b → (b || eqb kind 2) ≡ true
-    go true e = refl
-    go false e = eq-eqb kind 2 (omega (arith, eqb-false kind 1 e, is.formed small))
-
-form_kind : (own k : ℕ) (g : Gate) → (g.kind ≡ 1 → ⊥) → (g.kind ≡ 2 → ⊥) → (first_failed (form_tests own k g)).number ≡ 22
+form_kind : (own k : ℕ) (g : Gate) → (g.kind ≡ 1 → ⊥) → (g.kind ≡ 2 → ⊥) → first_failed (form_tests own k g) ≡ record { number = 22; place = k }
 unfolding form_tests first_failed
 form_kind own k g one two = rw (ne_eqb g.kind 1 one, ne_eqb g.kind 2 two) refl
 
-module _ {or left right own : ℕ} where
-  pub kind_tested : 1 < or → FormTested or left right own 22
-  kind_tested large =
-      record {
-        number = λ kind k is. sym (form_kind own k (record { kind = kind; left = left; right = right }) (is.other large).0 (is.other large).1);
-        formed = λ e. absurd (omega arith);
-      }
-
-  module _ (small : or ≤ 1) where
-    pub left_tested : own ≤ left → FormTested or left right own 23
-    unfolding form_tests first_failed
-    left_tested late = record { number = λ kind k is. rw (kind_formed kind or is small, le-ltb left own late) refl; formed = λ e. absurd (omega arith) }
-
-    pub right_tested : own ≤ right → FormTested or left right own 23
-    unfolding form_tests first_failed
-    right_tested late =
-        record { number = λ kind k is. rw (kind_formed kind or is small, le-ltb right own late, and-false (ltb left own)) refl; formed = λ e. absurd (omega arith) }
-
-    pub form_tested : left < own → right < own → FormTested or left right own 0
-    unfolding form_tests first_failed
-    form_tested l r =
-        record { number = λ kind k is. rw (kind_formed kind or is small, lt-ltb left own l, lt-ltb right own r) refl; formed = λ e. (small, l, r) }
-
--- the value of a gate: half of the sum is the AND, and of one more the OR
-pub half_joins : {or first second : ℕ} → or ≤ 1 → Joined or first second ((first + second + or) / 2)
-half_joins {or} small = record { value = λ x y e f. rw (e, f) (go or x y small) }
+-- the kind of a number, and what is wrong with any other
+pub kind_is : {kind : ℕ} {of : Kind} → Ok of ≡ kind_of kind → kind ≡ kind_byte of
+unfolding kind_of
+kind_is {kind} {of} e = go (eqb kind 1) (eqb kind 2) refl refl e
   where
-    go : (or : ℕ) (x y : Bool) → or ≤ 1 → (digit x + digit y + or) / 2 ≡ digit (kind_value (or + 1) x y)
-    go zero true true l = refl
-    go zero true false l = refl
-    go zero false true l = refl
-    go zero false false l = refl
-    go (suc zero) true true l = refl
-    go (suc zero) true false l = refl
-    go (suc zero) false true l = refl
-    go (suc zero) false false l = refl
-    go (suc (suc or)) x y l = absurd (omega arith)
+    go : (b d : Bool) → eqb kind 1 ≡ b → eqb kind 2 ≡ d → Ok of ≡ cond b (Ok And) (cond d (Ok Or) (Err Form)) → kind ≡ kind_byte of
+    go true d p q f = let same : of ≡ And = cc in eqb-true kind 1 p ∙ ap kind_byte (sym same)
+    go false true p q f = let same : of ≡ Or = cc in eqb-true kind 2 q ∙ ap kind_byte (sym same)
+    go false false p q f = cc
+
+kind_formed : {kind : ℕ} (of : Kind) → kind ≡ kind_byte of → (eqb kind 1 || eqb kind 2) ≡ true
+kind_formed And e = rw e refl
+kind_formed Or e = rw e refl
+
+kind_small : (of : Kind) → kind_byte of ≤ 2
+kind_small And = omega arith
+kind_small Or = omega arith
+
+kind_other : (kind : ℕ) {fault : GateFault} → Err fault ≡ kind_of kind → (fault ≡ Form) × ((eqb kind 1 || eqb kind 2) ≡ false)
+unfolding kind_of
+kind_other kind {fault} e = go (eqb kind 1) (eqb kind 2) e
+  where
+    go : (b d : Bool) → Err fault ≡ cond b (Ok And) (cond d (Ok Or) (Err Form)) → (fault ≡ Form) × ((b || d) ≡ false)
+    go true d f = absurd (cc)
+    go false true f = absurd (cc)
+    go false false f = (cc, refl)
+
+pub kind_none : (kind : ℕ) → (kind ≡ 1 → ⊥) → (kind ≡ 2 → ⊥) → Err Form ≡ kind_of kind
+unfolding kind_of
+kind_none kind one two = rw (ne_eqb kind 1 one, ne_eqb kind 2 two) refl
+
+module _ {kind left right own k : ℕ} where
+  pub kind_refused : {fault : GateFault} → Err fault ≡ kind_of kind → GateTested kind left right own k (Err (AtGate fault k))
+  unfolding form_tests first_failed
+  kind_refused e = let other = kind_other kind e in record { verdict = rw (other.0, other.1) refl; formed = λ of q. absurd (cc) }
+
+  module _ {of : Kind} (e : Ok of ≡ kind_of kind) where
+    pub left_refused : own ≤ left → GateTested kind left right own k (Err (AtGate InputNotEarlier k))
+    unfolding form_tests first_failed
+    left_refused late = record { verdict = rw (kind_formed of (kind_is e), le-ltb left own late) refl; formed = λ of q. absurd (cc) }
+
+    pub right_refused : own ≤ right → GateTested kind left right own k (Err (AtGate InputNotEarlier k))
+    unfolding form_tests first_failed
+    right_refused late = record { verdict = rw (kind_formed of (kind_is e), le-ltb right own late, and-false (ltb left own)) refl; formed = λ of q. absurd (cc) }
+
+    pub gate_tested : left < own → right < own → GateTested kind left right own k (Ok of)
+    unfolding form_tests first_failed
+    gate_tested l r =
+        record {
+          verdict = rw (kind_formed of (kind_is e), lt-ltb left own l, lt-ltb right own r) refl;
+          formed = λ same q. let equal : of ≡ same = cc in (kind_is e ∙ ap kind_byte equal, l, r);
+        }
+
+-- a value that is kept, read as a truth value
+pub kept_true : {n : ℕ} {x b : Bool} → n ≡ digit b → x ≡ eqb n 1 → x ≡ b
+kept_true {b = true} e f = f ∙ rw e refl
+kept_true {b = false} e f = f ∙ rw e refl
 
 -- one gate on plain numbers
-module _ (bytes : List ℕ) (k : ℕ) {kind left right or n : ℕ} (is : OrOf kind or) (tested : FormTested or left right (length bytes) n) where
-  pub gate_refused : (n ≡ 0 → ⊥) → Evaluates (gate_evaluated bytes k (record { kind = kind; left = left; right = right })) (record { number = n; place = k; value = 0 })
+module _ (bytes : List ℕ) (k : ℕ) {kind left right : ℕ} where
+  pub gate_refused : {m : Malformed} → GateTested kind left right (length bytes) k (Err m)
+      → Evaluates (gate_evaluated bytes k (record { kind = kind; left = left; right = right })) (evaluated_of (Err m))
   unfolding gate_evaluated
-  gate_refused bad =
+  gate_refused {m} tested =
       let g : Gate = record { kind = kind; left = left; right = right } in
-      answers_refused (form_tests (length bytes) k g) (kept_value bytes g) n k (form_placed (length bytes) k g) (tested.number kind k is) bad
+      answers_refused m (kept_value bytes g) (first_failed (form_tests (length bytes) k g)) tested.verdict
 
-  pub gate_valued : {r : ℕ} → n ≡ 0 → Joined or (get_or bytes left 0 % 2) (get_or bytes right 0 % 2) r
-      → Evaluates (gate_evaluated bytes k (record { kind = kind; left = left; right = right })) (record { number = 0; place = 0; value = r })
+  pub gate_valued : {of : Kind} {r : ℕ} {x : Bool} → GateTested kind left right (length bytes) k (Ok of) → Joined of (get_or bytes left 0 % 2) (get_or bytes right 0 % 2) r → x ≡ eqb r 1
+      → Evaluates (gate_evaluated bytes k (record { kind = kind; left = left; right = right })) (evaluated_of (Ok x))
   unfolding gate_evaluated kept_at
-  gate_valued good joined =
+  gate_valued {of} {r} {x} tested joined e =
       let g : Gate = record { kind = kind; left = left; right = right } in
-      let passed = none_passed (form_tests (length bytes) k g) (form_numbered (length bytes) k g) (sym (tested.number kind k is) ∙ good) in
       let valued = joined.value (bit_of (get_or bytes left 0) 0) (bit_of (get_or bytes right 0) 0) (low_bit (get_or bytes left 0)) (low_bit (get_or bytes right 0)) in
-      rw (valued, ← is.formed (tested.formed good).0) (answers_value (form_tests (length bytes) k g) (kept_value bytes g) passed)
+      let same : x ≡ kept_value bytes g = kept_true valued e ∙ ap (λ (n : ℕ). kind_value n (kept_at bytes left) (kept_at bytes right)) (sym (tested.formed of refl).0) in
+      rw same (answers_value (kept_value bytes g) (first_failed (form_tests (length bytes) k g)) tested.verdict)
 
 -- gate k of a table
 pub gate_numbered : (own : ℕ) (t : List ℕ) (k : ℕ) → Numbered (record_tests own t k)
 gate_numbered own t k = (omega arith, form_numbered own k (gate_at t k))
-
-pub gate_placed : (own : ℕ) (t : List ℕ) (k : ℕ) → Placed k (record_tests own t k)
-gate_placed own t k = (refl, form_placed own k (gate_at t k))
 
 -- all gates of a table
 pub gates_stop : (N : ℕ) (t : List ℕ) (k more n : ℕ) → suc (k + more) ≡ n → Passed (gates_tests N t k) → ((first_failed (gate_tests N t k)).number ≡ 0 → ⊥)
@@ -171,19 +178,23 @@ filled_start N assignment bytes room =
     filled_none N assignment (set (set bytes 0 0) 1 1) (get_or-set_other (set bytes 0 0) 1 0 1 0 (omega arith) ∙ get_or-set_same bytes 0 0 0 (omega arith))
     (get_or-set_same (set bytes 0 0) 1 1 0 (omega (arith, length-set bytes 0 0)))
 
--- the rows, by their rule: sixteen of eight
-abbrev pub row_holds : ℕ → List ℕ → Bool
+-- the rows of constants keep to the rule of a row: sixteen of eight
+abbrev row_holds : ℕ → List ℕ → Bool
 row_holds n row = eqb (length row) 8 && holds_from (λ i x. eqb x (row_value n i)) 0 row
 
-pub rows_are : (rows : List (List ℕ)) → length rows ≡ 16 → holds_from row_holds 0 rows ≡ true → Rows rows
-rows_are rows size e =
-    record {
-      value =
-          λ n i l m.
-          let row = get_or rows n [] in
-          let both = and_both (eqb (length row) 8) (holds_from (λ i x. eqb x (row_value n i)) 0 row) (holds_all row_holds [] rows e n (omega arith)) in
-          eqb-true (get_or row i 0) (row_value n i) (holds_all (λ i x. eqb x (row_value n i)) 0 row both.1 i (omega (arith, eqb-true (length row) 8 both.0)));
-    }
+rows_hold : holds_from row_holds 0 ROWS ≡ true
+unfolding row_value
+rows_hold = refl
+
+module _ (n : ℕ) (small : n < 16) where
+  row_both : (eqb (length (get_or ROWS n [])) 8 ≡ true) × (holds_from (λ i x. eqb x (row_value n i)) 0 (get_or ROWS n []) ≡ true)
+  row_both = and_both (eqb (length (get_or ROWS n [])) 8) (holds_from (λ i x. eqb x (row_value n i)) 0 (get_or ROWS n [])) (holds_all row_holds [] ROWS rows_hold n small)
+
+  row_size : length (get_or ROWS n []) ≡ 8
+  row_size = eqb-true (length (get_or ROWS n [])) 8 row_both.0
+
+  pub row_at : (i : ℕ) → i < 8 → get_or (get_or ROWS n []) i 0 ≡ row_value n i
+  row_at i l = eqb-true (get_or (get_or ROWS n []) i 0) (row_value n i) (holds_all (λ i x. eqb x (row_value n i)) 0 (get_or ROWS n []) row_both.1 i (omega (arith, row_size)))
 
 -- the values of four variables more, by the row that has their bits
 filled_row : (N : ℕ) (assignment bytes last : List ℕ) (v n : ℕ) → v + 4 ≤ N → ((k : ℕ) → k < 4 → eqb (n / 2 ^ k % 2) 1 ≡ has assignment (v + k))
@@ -227,24 +238,37 @@ high_bits n m k = ap (λ (x : ℕ). x % 2) (shr-shr n m k)
 byte_bit : (assignment : List ℕ) (j k : ℕ) → k < 8 → eqb (get_or assignment j 0 / 2 ^ k % 2) 1 ≡ has assignment (8 * j + k)
 byte_bit assignment j k l = bit_shifted (get_or assignment j 0) k ∙ sym (has_at assignment j k l)
 
+-- the values of the variables so far are the same among more
+filled_among : (N M v : ℕ) (assignment bytes : List ℕ) → v ≤ N → v ≤ M → Filled N assignment v bytes → Filled M assignment v bytes
+unfolding reference_value
+filled_among N M v assignment bytes n m filled =
+    record {
+      byte =
+          λ r l.
+          let same : reference_value N (has assignment) [] r ≡ reference_value M (has assignment) [] r = rw (lt-ltb r (2 + 2 * N) (omega arith), lt-ltb r (2 + 2 * M) (omega arith)) refl in
+          filled.byte r l ∙ ap digit same;
+    }
+
 -- the values of a byte's variables, by a row for each half of it
-pub filled_byte : (N : ℕ) (assignment bytes between last : List ℕ) (j : ℕ) → 8 * j + 8 ≤ N
-    → RowFilled (get_or assignment j 0 % 16) (2 + 16 * j) bytes between → RowFilled (get_or assignment j 0 / 16) (2 + 16 * j + 8) between last
-    → Filled N assignment (8 * j) bytes → Filled N assignment (8 * (j + 1)) last
-filled_byte N assignment bytes between last j small low high filled =
-    let b = get_or assignment j 0 in
+pub filled_byte : (assignment bytes between last : List ℕ) (j b : ℕ) → b ≡ get_or assignment j 0
+    → RowFilled (b % 16) (2 + 16 * j) bytes between → RowFilled (b / 16) (2 + 16 * j + 8) between last
+    → Filled (8 * j) assignment (8 * j) bytes → Filled (8 * (j + 1)) assignment (8 * (j + 1)) last
+filled_byte assignment bytes between last j b is low high before =
+    let N = 8 * (j + 1) in
+    let filled = filled_among (8 * j) N (8 * j) assignment bytes (omega arith) (omega arith) before in
     let first_at : 2 + 16 * j ≡ 2 + 2 * (8 * j) = omega arith in
     let second_at : 2 + 16 * j + 8 ≡ 2 + 2 * (8 * j + 4) = omega arith in
     let all : 8 * j + 4 + 4 ≡ 8 * (j + 1) = omega arith in
+    let bits : (k : ℕ) → k < 8 → eqb (b / 2 ^ k % 2) 1 ≡ has assignment (8 * j + k) = λ k l. ap (λ (x : ℕ). eqb (x / 2 ^ k % 2) 1) is ∙ byte_bit assignment j k l in
     let first =
     filled_row N assignment bytes between (8 * j) (b % 16) (omega arith)
-    (λ k l. ap (λ (x : ℕ). eqb x 1) (low_bits b 4 k l) ∙ byte_bit assignment j k (omega arith))
+    (λ k l. ap (λ (x : ℕ). eqb x 1) (low_bits b 4 k l) ∙ bits k (omega arith))
     (subst (λ (x : ℕ). RowFilled (b % 16) x bytes between) first_at low) filled in
     subst (λ (v : ℕ). Filled N assignment v last) all
     (filled_row N assignment between last (8 * j + 4) (b / 16) (omega arith)
     (λ k l.
     let at : 8 * j + (4 + k) ≡ 8 * j + 4 + k = omega arith in
-    ap (λ (x : ℕ). eqb x 1) (high_bits b 4 k) ∙ byte_bit assignment j (4 + k) (omega arith) ∙ ap (has assignment) at)
+    ap (λ (x : ℕ). eqb x 1) (high_bits b 4 k) ∙ bits (4 + k) (omega arith) ∙ ap (has assignment) at)
     (subst (λ (x : ℕ). RowFilled (b / 16) x between last) second_at high) first)
 
 -- the values that are kept
@@ -295,115 +319,91 @@ known_next N σ t bytes k b room known e = record { byte = λ r l. go r l (eqb r
 
 -- 20 and 21
 module _ (h most : ℕ) (assignment t : List ℕ) where
-  pub length_assignment : (length assignment ≡ h → ⊥) → 20 ≡ length_number h most assignment t
-  unfolding length_number length_tests
+  pub length_assignment : (length assignment ≡ h → ⊥) → first_failed (length_tests h most assignment t) ≡ record { number = 20; place = 0 }
+  unfolding length_tests
   length_assignment other =
-      sym (ap (λ (v : Verdict). v.number)
-      (fails (eqb (length assignment) h) 20 0 (test (eqb (length t % 8) 0 && leb (length t) (8 * most)) 21 0 ∷ []) (ne_eqb (length assignment) h other)))
+      fails (eqb (length assignment) h) 20 0 (test (eqb (length t % 8) 0 && leb (length t) (8 * most)) 21 0 ∷ []) (ne_eqb (length assignment) h other)
 
-  pub length_table : length assignment ≡ h → (eqb (length t % 8) 0 && leb (length t) (8 * most)) ≡ false → 21 ≡ length_number h most assignment t
-  unfolding length_number length_tests
+  length_table : length assignment ≡ h → (eqb (length t % 8) 0 && leb (length t) (8 * most)) ≡ false → first_failed (length_tests h most assignment t) ≡ record { number = 21; place = 0 }
+  unfolding length_tests
   length_table size e =
-      sym (ap (λ (v : Verdict). v.number)
-      (passes (eqb (length assignment) h) 20 0 (test (eqb (length t % 8) 0 && leb (length t) (8 * most)) 21 0 ∷ []) (eq-eqb (length assignment) h size)
-      ∙ fails (eqb (length t % 8) 0 && leb (length t) (8 * most)) 21 0 [] e))
+      passes (eqb (length assignment) h) 20 0 (test (eqb (length t % 8) 0 && leb (length t) (8 * most)) 21 0 ∷ []) (eq-eqb (length assignment) h size)
+      ∙ fails (eqb (length t % 8) 0 && leb (length t) (8 * most)) 21 0 [] e
 
-  pub length_odd : length assignment ≡ h → (length t % 8 ≡ 0 → ⊥) → 21 ≡ length_number h most assignment t
+  pub length_odd : length assignment ≡ h → (length t % 8 ≡ 0 → ⊥) → first_failed (length_tests h most assignment t) ≡ record { number = 21; place = 0 }
   length_odd size odd = length_table size (ap (λ (b : Bool). b && leb (length t) (8 * most)) (ne_eqb (length t % 8) 0 odd))
 
-  pub length_many : length assignment ≡ h → length t % 8 ≡ 0 → most < length t / 8 → 21 ≡ length_number h most assignment t
+  pub length_many : length assignment ≡ h → length t % 8 ≡ 0 → most < length t / 8 → first_failed (length_tests h most assignment t) ≡ record { number = 21; place = 0 }
   length_many size whole many = length_table size (ap₂ ◌&&◌ (eq-eqb (length t % 8) 0 whole) (lt-leb (length t) (8 * most) (omega arith)))
 
-  pub length_good : length assignment ≡ h → length t % 8 ≡ 0 → length t / 8 ≤ most → 0 ≡ length_number h most assignment t
-  unfolding length_number length_tests
+  pub length_good : length assignment ≡ h → length t % 8 ≡ 0 → length t / 8 ≤ most → first_failed (length_tests h most assignment t) ≡ record { number = 0; place = 0 }
+  unfolding length_tests
   length_good size whole few =
-      sym (ap (λ (v : Verdict). v.number)
-      (passed_none (length_tests h most assignment t)
+      passed_none (length_tests h most assignment t)
       (eq-eqb (length assignment) h size, (ap₂ ◌&&◌ (eq-eqb (length t % 8) 0 whole) (le-leb (length t) (8 * most) (omega arith)), tt))
-      ∙ no_test))
+      ∙ no_test
 
   pub lengths_numbered : Numbered (length_tests h most assignment t)
   unfolding length_tests
   lengths_numbered = (omega arith, (omega arith, tt))
 
-  pub lengths_placed : Placed 0 (length_tests h most assignment t)
-  unfolding length_tests
-  lengths_placed = (refl, (refl, tt))
+  -- where no length is refused
+  module _ (e : record { number = 0; place = 0 } ≡ first_failed (length_tests h most assignment t)) where
+    lengths_passed : Passed (length_tests h most assignment t)
+    lengths_passed = none_passed (length_tests h most assignment t) lengths_numbered (sym (ap (λ (v : Verdict). v.number) e))
 
-  pub lengths_passed : 0 ≡ length_number h most assignment t → Passed (length_tests h most assignment t)
-  unfolding length_number
-  lengths_passed e = none_passed (length_tests h most assignment t) lengths_numbered (sym e)
+    pub lengths_size : length assignment ≡ h
+    unfolding length_tests
+    lengths_size = eqb-true (length assignment) h lengths_passed.0
 
-  pub lengths_size : 0 ≡ length_number h most assignment t → length assignment ≡ h
-  unfolding length_tests
-  lengths_size e = eqb-true (length assignment) h (lengths_passed e).0
+    pub lengths_few : length t ≤ 8 * most
+    unfolding length_tests
+    lengths_few = leb-true (length t) (8 * most) (and_both (eqb (length t % 8) 0) (leb (length t) (8 * most)) lengths_passed.1.0).1
 
-  pub lengths_few : 0 ≡ length_number h most assignment t → length t ≤ 8 * most
-  unfolding length_tests
-  lengths_few e = leb-true (length t) (8 * most) (and_both (eqb (length t % 8) 0) (leb (length t) (8 * most)) (lengths_passed e).1.0).1
-
-  -- the whole evaluation: by the lengths, and else by what lies behind their tests
-  module _ (root : ℕ) where
-    pub evaluated_lengths : (n : ℕ) → n ≡ length_number h most assignment t → (n ≡ 0 → ⊥) → Evaluates (evaluated h most assignment t root) (record { number = n; place = 0; value = 0 })
-    unfolding evaluated length_number
-    evaluated_lengths n e bad =
-        let x = value (8 * h) (has assignment) (gates_of t (records 8 t)) root in
-        answers_by (first_failed (evaluation_tests h most assignment t root)) (first_failed (length_tests h most assignment t)) x (record { number = n; place = 0; value = 0 })
-        (lengths_refuse h most assignment t root (λ z. bad (e ∙ z)))
-        (answers_refused (length_tests h most assignment t) x n 0 lengths_placed e bad)
-
-    pub evaluated_within_lem : 0 ≡ length_number h most assignment t → evaluated h most assignment t root ≡ evaluated_within h assignment t root
+    pub evaluated_within_lem : (root : ℕ) → evaluated h most assignment t root ≡ evaluated_within h assignment t root
     unfolding evaluated evaluated_within
-    evaluated_within_lem e =
+    evaluated_within_lem root =
         ap (λ (v : Verdict). answered v (value (8 * h) (has assignment) (gates_of t (records 8 t)) root))
-        (lengths_pass h most assignment t root (lengths_passed e))
+        (lengths_pass h most assignment t root lengths_passed)
+
+  -- and where one is
+  pub evaluated_lengths : (root : ℕ) (m : Malformed) → refusal_verdict {A = Bool} (Err m) ≡ first_failed (length_tests h most assignment t) → Evaluates (evaluated h most assignment t root) (evaluated_of (Err m))
+  unfolding evaluated
+  evaluated_lengths root m e =
+      let some = λ (z : (first_failed (length_tests h most assignment t)).number ≡ 0). malformed_some m (ap (λ (v : Verdict). v.number) e ∙ z) in
+      answers_refused m (value (8 * h) (has assignment) (gates_of t (records 8 t)) root) (first_failed (evaluation_tests h most assignment t root))
+      (e ∙ sym (lengths_refuse h most assignment t root some))
 
 -- behind the lengths: the gates, and the root
-module _ (h : ℕ) (assignment t : List ℕ) (root : ℕ) (bytes : List ℕ) (r : Verdict) (ran : Ran (8 * h) assignment t bytes r) where
-  pub within_gates : (r.number ≡ 0 → ⊥) → Evaluates (evaluated_within h assignment t root) (record { number = r.number; place = r.place; value = 0 })
+module _ (h : ℕ) (assignment t : List ℕ) (root : ℕ) (bytes : List ℕ) where
+  pub within_gates : {m : Malformed} → Ran (8 * h) assignment t bytes (Err m) → Evaluates (evaluated_within h assignment t root) (evaluated_of (Err m))
   unfolding evaluated_within
-  within_gates bad =
-      let x = value (8 * h) (has assignment) (gates_of t (records 8 t)) root in
+  within_gates {m} ran =
       let gates = gates_tests (8 * h) t (records 8 t) in
       let last = reference_tests (8 * h) root (records 8 t) in
-      answers_by (first_failed (gates ++ last)) (first_failed gates) x (record { number = r.number; place = r.place; value = 0 })
-      (after_refused gates last (λ z. bad (ran.number ∙ z)))
-      (record {
-        number = ran.number;
-        place = ran.place;
-        value = sym (ap (λ (b : Bool). cond b 0 (digit x)) (refused_is (first_failed gates) (λ z. bad (ran.number ∙ z))));
-      })
+      let some = λ (z : (first_failed gates).number ≡ 0). malformed_some m (ap (λ (v : Verdict). v.number) ran.verdict ∙ z) in
+      answers_refused m (value (8 * h) (has assignment) (gates_of t (records 8 t)) root) (first_failed (gates ++ last)) (ran.verdict ∙ sym (after_refused gates last some))
 
   -- where no gate is refused the root decides
-  module _ (good : r.number ≡ 0) where
-    within_last : (a : Evaluated) → Evaluates (answered (first_failed (reference_tests (8 * h) root (records 8 t))) (value (8 * h) (has assignment) (gates_of t (records 8 t)) root)) a
-        → Evaluates (evaluated_within h assignment t root) a
-    unfolding evaluated_within
-    within_last a =
-        answers_by (first_failed (gates_tests (8 * h) t (records 8 t) ++ reference_tests (8 * h) root (records 8 t))) (first_failed (reference_tests (8 * h) root (records 8 t)))
-        (value (8 * h) (has assignment) (gates_of t (records 8 t)) root) a
-        (root_decides (8 * h) t root (none_passed (gates_tests (8 * h) t (records 8 t)) (gates_numbered (8 * h) t (records 8 t)) (sym ran.number ∙ good)))
+  module _ {x : Unit {0}} (ran : Ran (8 * h) assignment t bytes (Ok x)) where
+    within_last : first_failed (gates_tests (8 * h) t (records 8 t) ++ reference_tests (8 * h) root (records 8 t)) ≡ first_failed (reference_tests (8 * h) root (records 8 t))
+    within_last =
+        root_decides (8 * h) t root
+        (none_passed (gates_tests (8 * h) t (records 8 t)) (gates_numbered (8 * h) t (records 8 t)) (sym (ap (λ (v : Verdict). v.number) ran.verdict)))
 
-    pub within_root : gate_reference (8 * h) (records 8 t) ≤ root → Evaluates (evaluated_within h assignment t root) (record { number = 24; place = 0; value = 0 })
-    unfolding reference_tests
+    pub within_root : gate_reference (8 * h) (records 8 t) ≤ root → Evaluates (evaluated_within h assignment t root) (evaluated_of (Err RootNotThere))
+    unfolding evaluated_within reference_tests
     within_root late =
-        within_last (record { number = 24; place = 0; value = 0 })
-        (answers_refused (reference_tests (8 * h) root (records 8 t)) (value (8 * h) (has assignment) (gates_of t (records 8 t)) root) 24 0 (refl, tt)
-        (sym (ap (λ (v : Verdict). v.number) (fails (ltb root (gate_reference (8 * h) (records 8 t))) 24 0 [] (le-ltb root (gate_reference (8 * h) (records 8 t)) late))))
-        (λ z. absurd (omega arith)))
+        answers_refused RootNotThere (value (8 * h) (has assignment) (gates_of t (records 8 t)) root) _
+        (sym (within_last ∙ fails (ltb root (gate_reference (8 * h) (records 8 t))) 24 0 [] (le-ltb root (gate_reference (8 * h) (records 8 t)) late)))
 
-    pub within_value : root < gate_reference (8 * h) (records 8 t) → Evaluates (evaluated_within h assignment t root) (record { number = 0; place = 0; value = get_or bytes root 0 })
-    unfolding reference_tests
-    within_value there =
-        let x = value (8 * h) (has assignment) (gates_of t (records 8 t)) root in
-        within_last (record { number = 0; place = 0; value = get_or bytes root 0 })
-        (rw ((ran.kept good).byte root there)
-        (answers_value (reference_tests (8 * h) root (records 8 t)) x (lt-ltb root (gate_reference (8 * h) (records 8 t)) there, tt)))
-
--- an array of zeros, with a byte for each of the 514 references before the gates and for each gate
-pub array_room : (gates : ℕ) (assignment t : List ℕ) → length assignment ≡ 32 → length t ≤ 8 * gates → Room 32 assignment t (replicate {A = ℕ} (514 + gates) 0)
-array_room gates assignment t size few =
-    record { half = omega arith; assigned = omega arith; references = omega (arith, length-replicate {A = ℕ} (514 + gates) 0) }
+    pub within_value : {y : Bool} → root < gate_reference (8 * h) (records 8 t) → y ≡ eqb (get_or bytes root 0) 1 → Evaluates (evaluated_within h assignment t root) (evaluated_of (Ok y))
+    unfolding evaluated_within reference_tests
+    within_value there e =
+        let z = value (8 * h) (has assignment) (gates_of t (records 8 t)) root in
+        rw (kept_true ((ran.kept refl).byte root there) e)
+        (answers_value z _
+        (sym (within_last ∙ passes (ltb root (gate_reference (8 * h) (records 8 t))) 24 0 [] (lt-ltb root (gate_reference (8 * h) (records 8 t)) there) ∙ no_test)))
 
 -- a number of two bytes is zero where both bytes are
 pair_zero : (x y : ℕ) → eqb (x + 256 * y) 0 ≡ (eqb x 0 && eqb y 0)
@@ -450,66 +450,58 @@ module _ {t : List ℕ} {k : ℕ} {g : GateRecord} (inside : 8 * k + 8 ≤ lengt
       let same = gate_read t k inside g.left g.right read.left read.right in
       λ i. record { kind = (e ∙ same.kind) i; left = same.left i; right = same.right i }
 
-  pub tail_refused : (own : ℕ) → (g.tail ≡ 0 → ⊥) → 22 ≡ (first_failed (record_tests own t k)).number
+  pub tail_refused : (own : ℕ) → (g.tail ≡ 0 → ⊥) → first_failed (record_tests own t k) ≡ record { number = 22; place = k }
   tail_refused own set =
       let byte = eqb (get_or t (8 * k + 1) 0) 0 in
       let tail = ne_eqb (pair_at t (8 * k + 6)) 0 (λ z. set (read.tail ∙ z)) in
-      sym (ap (λ (v : Verdict). v.number)
-      (fails (spare_at t k) 22 k (form_tests own k (gate_at t k)) (gate_spare t k inside ∙ ap (λ (b : Bool). byte && b) tail ∙ and-false byte)))
+      fails (spare_at t k) 22 k (form_tests own k (gate_at t k)) (gate_spare t k inside ∙ ap (λ (b : Bool). byte && b) tail ∙ and-false byte)
 
-  module _ {or : ℕ} (is : OrOf g.kind or) where
+  module _ {own : ℕ} {r : Result Kind Malformed} (clear : g.tail ≡ 0) (tested : GateTested g.kind g.left g.right own k r) where
     -- where byte 1 is set the kind is 256 or more, and so that of no gate
-    pub record_tested : {own n : ℕ} → g.tail ≡ 0 → FormTested or g.left g.right own n → n ≡ (first_failed (record_tests own t k)).number
-    record_tested {own} {n} clear tested = go (eqb (get_or t (8 * k + 1) 0) 0) refl
+    pub record_tested : refusal_verdict r ≡ first_failed (record_tests own t k)
+    record_tested = go (eqb (get_or t (8 * k + 1) 0) 0) refl
       where
         tail : eqb (pair_at t (8 * k + 6)) 0 ≡ true
         tail = eq-eqb (pair_at t (8 * k + 6)) 0 (sym read.tail ∙ clear)
 
-        go : (b : Bool) → eqb (get_or t (8 * k + 1) 0) 0 ≡ b → n ≡ (first_failed (record_tests own t k)).number
+        go : (b : Bool) → eqb (get_or t (8 * k + 1) 0) 0 ≡ b → refusal_verdict r ≡ first_failed (record_tests own t k)
         go true e =
             let byte = eqb-true (get_or t (8 * k + 1) 0) 0 e in
-            tested.number g.kind k is
-            ∙ ap (λ (f : Gate). (first_failed (form_tests own k f)).number) (gate_is g.kind (omega (arith, read.kind)))
-            ∙ sym (ap (λ (v : Verdict). v.number) (passes (spare_at t k) 22 k (form_tests own k (gate_at t k)) (gate_spare t k inside ∙ ap₂ ◌&&◌ e tail)))
+            tested.verdict
+            ∙ ap (λ (f : Gate). first_failed (form_tests own k f)) (gate_is g.kind (omega (arith, read.kind)))
+            ∙ sym (passes (spare_at t k) 22 k (form_tests own k (gate_at t k)) (gate_spare t k inside ∙ ap₂ ◌&&◌ e tail))
         go false e =
             let byte = eqb-false (get_or t (8 * k + 1) 0) 0 e in
             let f : Gate = record { kind = g.kind; left = g.left; right = g.right } in
-            tested.number g.kind k is ∙ form_kind own k f (λ one. byte (omega (arith, read.kind, one))) (λ two. byte (omega (arith, read.kind, two)))
-            ∙ sym (ap (λ (v : Verdict). v.number)
-            (fails (spare_at t k) 22 k (form_tests own k (gate_at t k)) (gate_spare t k inside ∙ ap (λ (b : Bool). b && eqb (pair_at t (8 * k + 6)) 0) e)))
+            tested.verdict ∙ form_kind own k f (λ one. byte (omega (arith, read.kind, one))) (λ two. byte (omega (arith, read.kind, two)))
+            ∙ sym (fails (spare_at t k) 22 k (form_tests own k (gate_at t k)) (gate_spare t k inside ∙ ap (λ (b : Bool). b && eqb (pair_at t (8 * k + 6)) 0) e))
 
-    -- and the value that is kept for it
-    pub turn_keeps : {N : ℕ} {σ : ℕ → Bool} {bytes : List ℕ} {n b : ℕ} → Known N σ (values N σ [] (gates_of t k)) k bytes
-        → FormTested or g.left g.right (gate_reference N k) n → n ≡ 0 → Joined or (get_or bytes g.left 0) (get_or bytes g.right 0) b → gate_reference N k < length bytes
-        → Known N σ (values N σ [] (gates_of t (k + 1))) (k + 1) (set bytes (gate_reference N k) b)
-    unfolding gate_value
-    turn_keeps {N} {σ} {bytes} {n} {b} known tested good joined room =
-        let vs = values N σ [] (gates_of t k) in
-        let formed = tested.formed good in
-        known_next N σ t bytes k b room known
-        (joined.value (reference_value N σ vs g.left) (reference_value N σ vs g.right) (known.byte g.left formed.1) (known.byte g.right formed.2)
-        ∙ ap (λ (f : Gate). digit (gate_value N σ vs f)) (gate_is (or + 1) (omega (arith, read.kind, is.formed formed.0))))
+  -- and the value that is kept for it
+  pub turn_keeps : {N : ℕ} {σ : ℕ → Bool} {bytes : List ℕ} {of : Kind} {b : ℕ} → Known N σ (values N σ [] (gates_of t k)) k bytes
+      → GateTested g.kind g.left g.right (gate_reference N k) k (Ok of) → Joined of (get_or bytes g.left 0) (get_or bytes g.right 0) b → gate_reference N k < length bytes
+      → Known N σ (values N σ [] (gates_of t (k + 1))) (k + 1) (set bytes (gate_reference N k) b)
+  unfolding gate_value
+  turn_keeps {N} {σ} {bytes} {of} {b} known tested joined room =
+      let vs = values N σ [] (gates_of t k) in
+      let formed = tested.formed of refl in
+      let number : kind_byte of ≡ get_or t (8 * k) 0 = omega (arith, formed.0, read.kind, kind_small of) in
+      known_next N σ t bytes k b room known
+      (joined.value (reference_value N σ vs g.left) (reference_value N σ vs g.right) (known.byte g.left formed.1) (known.byte g.right formed.2)
+      ∙ ap (λ (f : Gate). digit (gate_value N σ vs f)) (gate_is (kind_byte of) number))
 
 -- a turn of the loop over the gates stops at the first that is refused
-pub turn_stops : {N : ℕ} {assignment t bytes : List ℕ} {k n : ℕ} → k < records 8 t → Passed (gates_tests N t k) → n ≡ (first_failed (gate_tests N t k)).number → (n ≡ 0 → ⊥)
-    → Ran N assignment t bytes (record { number = n; place = k })
-turn_stops {N} {assignment} {t} {bytes} {k} l before e bad =
+pub turn_stops : {N : ℕ} {assignment t bytes : List ℕ} {k : ℕ} {m : Malformed} → k < records 8 t → Passed (gates_tests N t k)
+    → refusal_verdict {A = Kind} (Err m) ≡ first_failed (gate_tests N t k) → Ran N assignment t bytes (Err m)
+turn_stops {N} {assignment} {t} {bytes} {k} {m} l before e =
     let more : suc (k + (length t / 8 - suc k)) ≡ length t / 8 = omega arith in
-    let stop = gates_stop N t k (length t / 8 - suc k) (length t / 8) more before (λ z. bad (e ∙ z)) in
-    let place = refused_place k (gate_tests N t k) (gate_placed (gate_reference N k) t k) (λ z. bad (e ∙ z)) in
-    record {
-      number = e ∙ sym (ap (λ (v : Verdict). v.number) stop);
-      place = sym (ap (λ (v : Verdict). v.place) stop ∙ place);
-      kept = λ z. absurd (bad z);
-    }
+    let some = λ (z : (first_failed (gate_tests N t k)).number ≡ 0). malformed_some m (ap (λ (v : Verdict). v.number) e ∙ z) in
+    record { verdict = e ∙ sym (gates_stop N t k (length t / 8 - suc k) (length t / 8) more before some); kept = λ z. absurd (cc) }
 
 pub all_turned : (N : ℕ) (assignment t bytes : List ℕ) (k : ℕ) → k ≡ records 8 t → Passed (gates_tests N t k)
-    → Known N (has assignment) (values N (has assignment) [] (gates_of t k)) k bytes → Ran N assignment t bytes (record { number = 0; place = 0 })
+    → Known N (has assignment) (values N (has assignment) [] (gates_of t k)) k bytes → Ran N assignment t bytes (Ok tt)
 all_turned N assignment t bytes k e passed known =
     let none = passed_none (gates_tests N t k) passed ∙ no_test in
-    let all = ap (λ (n : ℕ). first_failed (gates_tests N t n)) (sym e) ∙ none in
     record {
-      number = sym (ap (λ (v : Verdict). v.number) all);
-      place = sym (ap (λ (v : Verdict). v.place) all);
+      verdict = sym (ap (λ (n : ℕ). first_failed (gates_tests N t n)) (sym e) ∙ none);
       kept = λ z. subst (λ (n : ℕ). Known N (has assignment) (values N (has assignment) [] (gates_of t n)) n bytes) e known;
     }

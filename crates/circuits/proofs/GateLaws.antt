@@ -1,13 +1,11 @@
 -- The laws of gates and their bytes: what was written reads back, whatever follows, and what one writes after another.
 use Rattle.std.proofs.Common.{◌≡◌, ℕ, zero, suc, ◌+◌, ◌*◌, ◌/◌, ◌%◌, ◌<◌, ◌≤◌, true, List, [], ◌∷◌, ◌++◌, length, get_or, take, drop, set, sym, refl, ap, ◌∙◌, ap₂, append_assoc, add-zero, add_assoc, arith, length-append, length-drop, take-append-drop, length-take, length-take-le, drop-drop, take_at, drop_at, le-ltb, lt-ltb}
-use native.Mathlib.Nat.{mul-mod_left}
+use Rattle.std.specs.Int.{w32, to_le_bytes}
 use native.Mathlib.Numerals.{towards_suc}
 use lib.Seq.{sets-eq}
 use Rattle.records.specs.Table.{record_at, records}
-use Rattle.records.proofs.ClauseLaws.{Bytes}
 use Rattle.records.proofs.TableLaws.{record_at_in}
 use Rattle.circuits.specs.Gate.{Gate, gate_bytes, gates_bytes, gate_of, gate_at, spare_of, spare_at, gates_of, over, with_gates, gate_written}
-use Rattle.circuits.specs.Inside.{four_bytes}
 use Rattle.records.proofs.ListLaws.{tabulate_members}
 
 -- one gate
@@ -16,17 +14,6 @@ gate_back g =
     let l : g.left % 256 + 256 * (g.left / 256) ≡ g.left = omega arith in
     let r : g.right % 256 + 256 * (g.right / 256) ≡ g.right = omega arith in
     ap₂ (λ (x y : ℕ). record { kind = g.kind; left = x; right = y }) l r
-
-pub bytes_gate_bytes : (g : Gate) → g.kind < 256 → g.left < 65536 → g.right < 65536 → Bytes (gate_bytes g)
-bytes_gate_bytes g k l r zero = k
-bytes_gate_bytes g k l r (suc zero) = omega arith
-bytes_gate_bytes g k l r (suc (suc zero)) = omega arith
-bytes_gate_bytes g k l r (suc (suc (suc zero))) = omega arith
-bytes_gate_bytes g k l r (suc (suc (suc (suc zero)))) = omega arith
-bytes_gate_bytes g k l r (suc (suc (suc (suc (suc zero))))) = omega arith
-bytes_gate_bytes g k l r (suc (suc (suc (suc (suc (suc zero)))))) = omega arith
-bytes_gate_bytes g k l r (suc (suc (suc (suc (suc (suc (suc zero))))))) = omega arith
-bytes_gate_bytes g k l r (suc (suc (suc (suc (suc (suc (suc (suc i)))))))) = omega arith
 
 -- the bytes of several gates
 pub length_gates_bytes : (gs : List Gate) → length (gates_bytes gs) ≡ 8 * length gs
@@ -131,24 +118,22 @@ rest_unchanged t gs =
     ∙ (let e : 0 + length (gates_bytes gs) ≡ 8 * length gs = omega (arith, length_gates_bytes gs) in ap (λ (n : ℕ). drop n t) e)
 
 -- a gate's bytes as two numbers of four
-gate_fours : (k l r : ℕ) → k < 256 → l < 65536 → r < 65536 → four_bytes (k + 65536 * l) ++ four_bytes r ≡ gate_bytes (record { kind = k; left = l; right = r })
+gate_fours : (k l r : ℕ) → k < 256 → l < 65536 → r < 65536 → to_le_bytes w32 (k + 65536 * l) ++ to_le_bytes w32 r ≡ gate_bytes (record { kind = k; left = l; right = r })
 gate_fours k l r a b c =
     let kind : (k + 65536 * l) % 256 ≡ k = omega arith in
-    let above : (k + 65536 * l) / 256 ≡ l * 256 = omega arith in
-    let spare : (k + 65536 * l) / 256 % 256 ≡ 0 = ap (λ (n : ℕ). n % 256) above ∙ mul-mod_left l 256 in
-    let left : (k + 65536 * l) / 65536 ≡ l = omega arith in
-    let low : (k + 65536 * l) / 65536 % 256 ≡ l % 256 = ap (λ (n : ℕ). n % 256) left in
-    let high : (k + 65536 * l) / 16777216 ≡ l / 256 = omega arith in
+    let spare : (k + 65536 * l) / 256 % 256 ≡ 0 = omega arith in
+    let low : (k + 65536 * l) / 65536 % 256 ≡ l % 256 = omega arith in
+    let high : (k + 65536 * l) / 16777216 % 256 ≡ l / 256 = omega arith in
     let right : r / 256 % 256 ≡ r / 256 = omega arith in
     let none : r / 65536 % 256 ≡ 0 = omega arith in
-    let last : r / 16777216 ≡ 0 = omega arith in
+    let last : r / 16777216 % 256 ≡ 0 = omega arith in
     rw (kind, spare, low, high, right, none, last) refl
 
 pub written_fours : (t : List ℕ) (n k l r : ℕ) → k < 256 → l < 65536 → r < 65536 → 8 * n + 8 ≤ length t
-    → over (over t (8 * n) (four_bytes (k + 65536 * l))) (8 * n + 4) (four_bytes r) ≡ with_gates t n (record { kind = k; left = l; right = r } ∷ [])
+    → over (over t (8 * n) (to_le_bytes w32 (k + 65536 * l))) (8 * n + 4) (to_le_bytes w32 r) ≡ with_gates t n (record { kind = k; left = l; right = r } ∷ [])
 unfolding gates_bytes
 written_fours t n k l r a b c p =
-    over_over t (8 * n) (four_bytes (k + 65536 * l)) (four_bytes r) (omega arith) ∙ ap (over t (8 * n)) (gate_fours k l r a b c)
+    over_over t (8 * n) (to_le_bytes w32 (k + 65536 * l)) (to_le_bytes w32 r) (omega arith) ∙ ap (over t (8 * n)) (gate_fours k l r a b c)
 
 -- one gate written into a table: where there is room it is there, and else nothing changes
 pub written_in : (t : List ℕ) (k : ℕ) (g : Gate) → 8 * k + 8 ≤ length t → gate_written t k g ≡ with_gates t k (g ∷ [])

@@ -12,7 +12,10 @@ use Rattle.records.proofs.ClauseLaws.{holds_bound, holds_resolvent}
 use Rattle.records.proofs.TableLaws.{occurs_here}
 use Rattle.records.proofs.DerivationLaws.{clause_a, clause_b}
 use Rattle.records.proofs.MeaningLaws.{empty_holds, satisfies_which, empty_unsatisfied, satisfies_all_at}
-use Rattle.circuits.specs.Rule.{Rule, join, meet, both, symmetric, symmetric_rule}
+use Rattle.circuits.specs.declared.rules.Rule.{Rule}
+use Rattle.circuits.specs.declared.kinds.Kind.TheVariants.{And, Or}
+use Rattle.circuits.specs.declared.rules.Rule.TheVariants.{One, Both}
+use Rattle.circuits.specs.Rule.{symmetric, symmetric_rule}
 use Rattle.circuits.proofs.CircuitLaws.{rule_value}
 
 -- the clause holds a literal that σ makes true, of a variable that is chosen
@@ -136,7 +139,7 @@ abbrev pub rule_operation : (ℕ → Rule) → (ℕ → Bool) → ℕ → Bool �
 rule_operation rule σ p x y = rule_value (rule p) (σ p) x y
 
 -- true is kept where only pivots outside the set have AND
-pub keeps_true : (rule : ℕ → Rule) (chosen σ : ℕ → Bool) → ((p : ℕ) → rule p ≡ meet → chosen p ≡ false) → (p : ℕ) → Keeps chosen σ (λ (x : Bool). x ≡ true) (rule_operation rule σ) p
+pub keeps_true : (rule : ℕ → Rule) (chosen σ : ℕ → Bool) → ((p : ℕ) → rule p ≡ One And → chosen p ≡ false) → (p : ℕ) → Keeps chosen σ (λ (x : Bool). x ≡ true) (rule_operation rule σ) p
 keeps_true rule chosen σ outside-only p =
     record {
       at_false = λ c e x y good. rw (e, good) (left (rule p) y (λ q. true≢false (sym c ∙ outside-only p q)));
@@ -144,24 +147,24 @@ keeps_true rule chosen σ outside-only p =
       outside = λ c x y good well. rw (good, well) (two (rule p) (σ p));
     }
   where
-    left : (u : Rule) (y : Bool) → (u ≡ meet → ⊥) → rule_value u false true y ≡ true
-    left join y n = refl
-    left meet y n = absurd (n refl)
-    left both y n = refl
+    left : (u : Rule) (y : Bool) → (u ≡ One And → ⊥) → rule_value u false true y ≡ true
+    left (One Or) y n = refl
+    left (One And) y n = absurd (n refl)
+    left Both y n = refl
 
-    right : (u : Rule) (x : Bool) → (u ≡ meet → ⊥) → rule_value u true x true ≡ true
-    right join x n = or-true x
-    right meet x n = absurd (n refl)
-    right both x n = refl
+    right : (u : Rule) (x : Bool) → (u ≡ One And → ⊥) → rule_value u true x true ≡ true
+    right (One Or) x n = or-true x
+    right (One And) x n = absurd (n refl)
+    right Both x n = refl
 
     two : (u : Rule) (x : Bool) → rule_value u x true true ≡ true
-    two join x = refl
-    two meet x = refl
-    two both true = refl
-    two both false = refl
+    two (One Or) x = refl
+    two (One And) x = refl
+    two Both true = refl
+    two Both false = refl
 
 -- false is kept where only pivots outside the set have OR
-pub keeps_false : (rule : ℕ → Rule) (chosen σ : ℕ → Bool) → ((p : ℕ) → rule p ≡ join → chosen p ≡ false) → (p : ℕ) → Keeps chosen σ (λ (x : Bool). x ≡ false) (rule_operation rule σ) p
+pub keeps_false : (rule : ℕ → Rule) (chosen σ : ℕ → Bool) → ((p : ℕ) → rule p ≡ One Or → chosen p ≡ false) → (p : ℕ) → Keeps chosen σ (λ (x : Bool). x ≡ false) (rule_operation rule σ) p
 keeps_false rule chosen σ outside-only p =
     record {
       at_false = λ c e x y good. rw (e, good) (left (rule p) y (λ q. true≢false (sym c ∙ outside-only p q)));
@@ -169,21 +172,21 @@ keeps_false rule chosen σ outside-only p =
       outside = λ c x y good well. rw (good, well) (two (rule p) (σ p));
     }
   where
-    left : (u : Rule) (y : Bool) → (u ≡ join → ⊥) → rule_value u false false y ≡ false
-    left join y n = absurd (n refl)
-    left meet y n = refl
-    left both y n = refl
+    left : (u : Rule) (y : Bool) → (u ≡ One Or → ⊥) → rule_value u false false y ≡ false
+    left (One Or) y n = absurd (n refl)
+    left (One And) y n = refl
+    left Both y n = refl
 
-    right : (u : Rule) (x : Bool) → (u ≡ join → ⊥) → rule_value u true x false ≡ false
-    right join x n = absurd (n refl)
-    right meet x n = and-false x
-    right both x n = refl
+    right : (u : Rule) (x : Bool) → (u ≡ One Or → ⊥) → rule_value u true x false ≡ false
+    right (One Or) x n = absurd (n refl)
+    right (One And) x n = and-false x
+    right Both x n = refl
 
     two : (u : Rule) (x : Bool) → rule_value u x false false ≡ false
-    two join x = refl
-    two meet x = refl
-    two both true = refl
-    two both false = refl
+    two (One Or) x = refl
+    two (One And) x = refl
+    two Both true = refl
+    two Both false = refl
 
 -- a clause of a satisfied table holds a true literal, of a variable that occurs in the table, and so is not empty
 module _ (h : ℕ) (σ : ℕ → Bool) (t : List ℕ) (all : satisfies_all h σ t ≡ true) (r : ℕ) (l : r < records (2 * h) t) where
@@ -196,20 +199,20 @@ module _ (h : ℕ) (σ : ℕ → Bool) (t : List ℕ) (all : satisfies_all h σ 
   not_empty e = true≢false (sym (satisfies_all_at h σ t r all l) ∙ empty_unsatisfied h σ (record_at (2 * h) t r) e)
 
 -- the rules of the symmetric system
-pub symmetric_meet : (h : ℕ) (a b : List ℕ) (p : ℕ) → symmetric_rule h a b p ≡ meet → occurs h a p ≡ false
+pub symmetric_meet : (h : ℕ) (a b : List ℕ) (p : ℕ) → symmetric_rule h a b p ≡ One And → occurs h a p ≡ false
 unfolding symmetric_rule
 symmetric_meet h a b p = go (occurs h a p) (occurs h b p)
   where
-    go : (x y : Bool) → symmetric x y ≡ meet → x ≡ false
+    go : (x y : Bool) → symmetric x y ≡ One And → x ≡ false
     go false y e = refl
     go true true e = cc
     go true false e = cc
 
-pub symmetric_join : (h : ℕ) (a b : List ℕ) (p : ℕ) → symmetric_rule h a b p ≡ join → occurs h b p ≡ false
+pub symmetric_join : (h : ℕ) (a b : List ℕ) (p : ℕ) → symmetric_rule h a b p ≡ One Or → occurs h b p ≡ false
 unfolding symmetric_rule
 symmetric_join h a b p = go (occurs h a p) (occurs h b p)
   where
-    go : (x y : Bool) → symmetric x y ≡ join → y ≡ false
+    go : (x y : Bool) → symmetric x y ≡ One Or → y ≡ false
     go x false e = refl
     go true true e = cc
     go false true e = cc

@@ -4,7 +4,10 @@ use Rattle.records.specs.declared.steps.Step.{Step}
 use Rattle.records.specs.Table.{records, occurs}
 use Rattle.circuits.specs.Reference.{positive, negative, gate_reference}
 use Rattle.circuits.specs.Gate.{Gate, and_gate, or_gate}
-use Rattle.circuits.specs.Rule.{Rule, join, meet, both, symmetric, symmetric_rule}
+use Rattle.circuits.specs.declared.rules.Rule.{Rule}
+use Rattle.circuits.specs.declared.kinds.Kind.TheVariants.{And, Or}
+use Rattle.circuits.specs.declared.rules.Rule.TheVariants.{One, Both}
+use Rattle.circuits.specs.Rule.{symmetric, symmetric_rule}
 use Rattle.circuits.specs.Build.{Added, Adding, plain, emit, Build, emitted, built, symmetric_start, symmetric_build}
 use Rattle.circuits.proofs.BuildLaws.{get_d_snoc, input_either}
 
@@ -63,11 +66,11 @@ plain_names_no_other N Allowed n g left right = ((left, right, tt), gate_within 
 
 module _ (N : ℕ) (Allowed : ℕ → Type 0) (add : Adding) (no_other : NamesNoOther N add) where
   -- a step names its pivot where the rule is both
-  pub emit_within : (u : Rule) (n p l r : ℕ) → (u ≡ both → Allowed p) → Within N Allowed l → Within N Allowed r → AddedWithin N Allowed (emit add u n p l r)
+  pub emit_within : (u : Rule) (n p l r : ℕ) → (u ≡ Both → Allowed p) → Within N Allowed l → Within N Allowed r → AddedWithin N Allowed (emit add u n p l r)
   unfolding emit
-  emit_within join n p l r pivot left right = no_other Allowed n (or_gate l r) left right
-  emit_within meet n p l r pivot left right = no_other Allowed n (and_gate l r) left right
-  emit_within both n p l r pivot left right =
+  emit_within (One Or) n p l r pivot left right = no_other Allowed n (or_gate l r) left right
+  emit_within (One And) n p l r pivot left right = no_other Allowed n (and_gate l r) left right
+  emit_within Both n p l r pivot left right =
       let low = add n (or_gate (positive p) l) in
       let high = add (n + length low.gates) (or_gate (negative p) r) in
       let last = add (n + length low.gates + length high.gates) (and_gate low.reference high.reference) in
@@ -77,7 +80,7 @@ module _ (N : ℕ) (Allowed : ℕ → Type 0) (add : Adding) (no_other : NamesNo
       (within_append N Allowed low.gates (high.gates ++ last.gates) low-is.0 (within_append N Allowed high.gates last.gates high_is.0 last-is.0), last-is.1)
 
   -- so the build, whose start names only what is allowed
-  pub built_within : (rule : ℕ → Rule) → ((p : ℕ) → rule p ≡ both → Allowed p) → (n : ℕ) (start : Build) (step : ℕ → Step)
+  pub built_within : (rule : ℕ → Rule) → ((p : ℕ) → rule p ≡ Both → Allowed p) → (n : ℕ) (start : Build) (step : ℕ → Step)
       → AllWithin N Allowed start.gates → ((k : ℕ) → Within N Allowed (get_or start.references k 0)) → (i : ℕ)
       → AllWithin N Allowed (built add rule n start step i).gates × ((k : ℕ) → Within N Allowed (get_or (built add rule n start step i).references k 0))
   unfolding built
@@ -96,11 +99,11 @@ module _ (N : ℕ) (Allowed : ℕ → Type 0) (add : Adding) (no_other : NamesNo
 abbrev pub InBoth : ℕ → List ℕ → List ℕ → ℕ → Type 0
 InBoth h a b v = (occurs h a v ≡ true) × (occurs h b v ≡ true)
 
-pub symmetric_both : (h : ℕ) (a b : List ℕ) (p : ℕ) → symmetric_rule h a b p ≡ both → InBoth h a b p
+pub symmetric_both : (h : ℕ) (a b : List ℕ) (p : ℕ) → symmetric_rule h a b p ≡ Both → InBoth h a b p
 unfolding symmetric_rule
 symmetric_both h a b p = go (occurs h a p) (occurs h b p)
   where
-    go : (x y : Bool) → symmetric x y ≡ both → (x ≡ true) × (y ≡ true)
+    go : (x y : Bool) → symmetric x y ≡ Both → (x ≡ true) × (y ≡ true)
     go true true e = (refl, refl)
     go true false e = (refl, cc)
     go false y e = (cc, cc)

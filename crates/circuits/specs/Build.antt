@@ -4,8 +4,10 @@ use Rattle.records.specs.declared.steps.Step.{Step}
 use Rattle.records.specs.Table.{records}
 use Rattle.records.specs.Step.{step_at, step_count}
 use Rattle.circuits.specs.Reference.{positive, negative, gate_reference}
-use Rattle.circuits.specs.Gate.{Gate, and_gate, or_gate}
-use Rattle.circuits.specs.Rule.{Rule, join, meet, both, symmetric_rule}
+use Rattle.circuits.specs.Gate.{Gate, kind_byte, and_gate, or_gate}
+use Rattle.circuits.specs.declared.rules.Rule.{Rule}
+use Rattle.circuits.specs.declared.rules.Rule.TheVariants.{One, Both}
+use Rattle.circuits.specs.Rule.{symmetric_rule}
 
 -- the gates that something adds, and the reference of its result
 pub record Added : Type 0 where
@@ -22,9 +24,8 @@ plain N n g = record { gates = g ∷ []; reference = gate_reference N n }
 
 -- the gates of a step with pivot p, whose antecedents have the references l and r, behind n gates: "The last is the step's reference."
 unfoldable pub emit : Adding → Rule → ℕ → ℕ → ℕ → ℕ → Added
-emit add join n p l r = add n (or_gate l r)
-emit add meet n p l r = add n (and_gate l r)
-emit add both n p l r =
+emit add (One kind) n p l r = add n (record { kind = kind_byte kind; left = l; right = r })
+emit add Both n p l r =
     let low = add n (or_gate (positive p) l) in
     let high = add (n + length low.gates) (or_gate (negative p) r) in
     let last = add (n + length low.gates + length high.gates) (and_gate low.reference high.reference) in
@@ -35,10 +36,13 @@ pub record Build : Type 0 where
   pub references : List ℕ
   pub gates : List Gate
 
+-- the same of step s, over the references of the clauses so far
+abbrev pub emit_step : Adding → Rule → ℕ → Step → List ℕ → Added
+emit_step add u n s references = emit add u n s.pivot (slice_index references s.left) (slice_index references s.right)
+
 -- what step s adds
 abbrev pub emitted : Adding → (ℕ → Rule) → ℕ → Step → Build → Added
-emitted add rule n s x =
-    emit add (rule s.pivot) (n + length x.gates) s.pivot (slice_index x.references s.left) (slice_index x.references s.right)
+emitted add rule n s x = emit_step add (rule s.pivot) (n + length x.gates) s x.references
 
 -- one step more
 abbrev pub advanced : Build → Added → Build

@@ -1,8 +1,12 @@
 -- The plain check: "checking a refutation and building its circuit (one call)", with what it leaves in both lent tables.
-use Rattle.std.specs.Prelude.{◌≡◌, ℕ, ◌*◌, cond, List, [], ◌∷◌, ◌++◌, length, ◌==◌, nat_le, slice_index}
+use Rattle.std.specs.Prelude.{◌≡◌, ℕ, ◌*◌, cond, Result, Ok, Err, List, [], ◌∷◌, ◌++◌, length, ◌==◌, nat_le, slice_index}
 use Rattle.records.specs.Step.{step_count}
 use Rattle.records.specs.Tests.{Test, test, first_failed, table_tests, room_tests}
 use Rattle.records.specs.Derivation.{Outcome, judged, derived}
+use Rattle.records.specs.Refusal as Records
+use Rattle.circuits.specs.declared.checking.Refusal.{Refusal}
+use Rattle.circuits.specs.declared.checking.Refusal.TheVariants.{Derivation, GatesTooShort}
+use Rattle.circuits.specs.declared.checking.Circuit.{Circuit}
 use Rattle.circuits.specs.declared.checking.Answer.{Answer}
 use Rattle.circuits.specs.Gate.{with_gates}
 use Rattle.circuits.specs.Build.{plain_build}
@@ -50,6 +54,19 @@ unfoldable pub plain_checked : ℕ → ℕ → List ℕ → List ℕ → List �
 plain_checked h most a b steps work gates =
     unless_refused (judged (first_failed (plain_tests h most a b steps work gates)) work) gates
     (unless_refused (derived h most a b steps work) gates (plain_accepted h a b steps gates (derived h most a b steps work)))
+
+-- "The check returns number, place, root reference and gate count": those of a refusal by name, and of a circuit
+abbrev pub refusal_number : Refusal → ℕ
+refusal_number (Derivation refusal) = Records.refusal_number refusal
+refusal_number GatesTooShort = 6
+
+abbrev pub refusal_place : Refusal → ℕ
+refusal_place (Derivation refusal) = Records.refusal_place refusal
+refusal_place GatesTooShort = 0
+
+abbrev pub answer_of : Result Circuit Refusal → Answer
+answer_of (Ok c) = record { number = 0; place = c.clause; root = c.root; count = c.count }
+answer_of (Err refusal) = record { number = refusal_number refusal; place = refusal_place refusal; root = 0; count = 0 }
 
 -- the answer r and the two lent tables afterwards, w and g, are those of the outcome
 pub record Checks (o : Checked) (r : Answer) (w g : List ℕ) : Type 0 where

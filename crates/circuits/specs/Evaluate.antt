@@ -1,10 +1,9 @@
 -- "Evaluating takes an assignment, a gate table and a root reference. It returns number, place and value, writes nothing, and a refusal has value 0."
 use Rattle.std.specs.Prelude.{◌≡◌, ℕ, zero, suc, ◌*◌, ◌%◌, Bool, cond, ◌&&◌, ◌||◌, List, [], ◌∷◌, ◌++◌, length, ◌==◌, nat_le, nat_lt, slice_index}
-use Rattle.records.specs.declared.tests.Verdict.{Verdict}
 use Rattle.records.specs.Bits.{bit_of, digit}
 use Rattle.records.specs.Clause.{has}
 use Rattle.records.specs.Table.{records}
-use Rattle.records.specs.Tests.{Test, test, first_failed, refused}
+use Rattle.records.specs.Tests.{Verdict, Test, test, first_failed, refused}
 use Rattle.circuits.specs.declared.evaluation.Evaluated.{Evaluated}
 use Rattle.circuits.specs.Reference.{gate_reference}
 use Rattle.circuits.specs.Gate.{Gate, gate_at, spare_at, gates_of}

@@ -3,11 +3,18 @@ use Rattle.std.specs.Prelude.{ℕ, ◌+◌, ◌*◌, ◌/◌, ◌%◌, Bool, con
 use Rattle.records.specs.Lists.{tabulate}
 use Rattle.records.specs.Table.{record_at, records}
 use Rattle.records.specs.Step.{pair_at}
+use Rattle.circuits.specs.declared.kinds.Kind.{Kind}
+use Rattle.circuits.specs.declared.kinds.Kind.TheVariants.{And, Or}
 
 pub record Gate : Type 0 where
   pub kind : ℕ
   pub left : ℕ
   pub right : ℕ
+
+-- the byte of a kind
+abbrev pub kind_byte : Kind → ℕ
+kind_byte And = 1
+kind_byte Or = 2
 
 abbrev pub and_gate : ℕ → ℕ → Gate
 and_gate left right = record { kind = 1; left = left; right = right }

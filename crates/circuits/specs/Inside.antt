@@ -1,13 +1,15 @@
 -- What the private pieces ask and promise. No public contract speaks of these.
-use Rattle.std.specs.Prelude.{◌≡◌, ℕ, ◌+◌, ◌*◌, ◌/◌, ◌%◌, ◌<◌, ◌≤◌, Bool, ◌||◌, List, [], ◌∷◌, length, take, slice_index, slice_set}
+use Rattle.std.specs.Prelude.{◌≡◌, ℕ, ◌+◌, ◌*◌, ◌<◌, ◌≤◌, Bool, ◌||◌, List, [], ◌∷◌, length, take, slice_index, slice_set}
+use Rattle.records.specs.declared.steps.Step.{Step}
 use Rattle.records.specs.Clause.{has}
 use Rattle.records.specs.Step.{step_at, step_count}
 use Rattle.circuits.specs.declared.building.Builder.{Builder}
 use Rattle.circuits.specs.declared.building.Made.{Made}
 use Rattle.circuits.specs.declared.building.Built.{Built}
-use Rattle.circuits.specs.declared.checking.Answer.{Answer}
+use Rattle.circuits.specs.declared.rules.Rule.{Rule}
+use Rattle.circuits.specs.declared.rules.Literals.{Literals}
 use Rattle.circuits.specs.Gate.{Gate, with_gates}
-use Rattle.circuits.specs.Rule.{Rule, symmetric}
+use Rattle.circuits.specs.Rule.{symmetric}
 use Rattle.circuits.specs.Build.{Added, Build}
 
 -- some literal of variable v is in a record
@@ -15,12 +17,16 @@ unfoldable pub mentions : ℕ → List ℕ → ℕ → Bool
 mentions h all v = has all v || has all (8 * h + v)
 
 -- the symmetric rule by the records of the literals of A and of B
-unfoldable pub rule_by : ℕ → List ℕ → List ℕ → ℕ → Rule
-rule_by h of_a of_b v = symmetric (mentions h of_a v) (mentions h of_b v)
+unfoldable pub rule_by : ℕ → Literals → ℕ → Rule
+rule_by h literals v = symmetric (mentions h literals.of_a v) (mentions h literals.of_b v)
 
--- the four bytes of a number below 2 ^ 32, little endian
-abbrev pub four_bytes : ℕ → List ℕ
-four_bytes n = n % 256 ∷ (n / 256 % 256 ∷ (n / 65536 % 256 ∷ (n / 16777216 ∷ [])))
+-- table t has room for k gates behind those of builder b, and each has a reference, as each of 3 times 1,024 has
+abbrev pub HasRoom : ℕ → Builder → List ℕ → Type 0
+HasRoom k b t = (8 * (b.next + k) ≤ length t) × (b.next + k ≤ 3072)
+
+-- a step's numbers are those of a variable and of two of 1,024 clauses
+abbrev pub InReach : Step → Type 0
+InReach s = (s.pivot < 256) × (s.left < 1024) × (s.right < 1024)
 
 -- from builder b and table t to builder b' and table t' gate g is added
 pub record Puts (b : Builder) (t : List ℕ) (g : Gate) (b' : Builder) (t' : List ℕ) : Type 0 where
@@ -61,10 +67,3 @@ pub record Builds (x : Build) (root : ℕ) (t : List ℕ) (r : Built) (t' : List
   pub reference : r.reference ≡ slice_index x.references root
   pub count : r.count ≡ length x.gates
   pub table : t' ≡ with_gates t 0 x.gates
-
--- a refusal's answer
-pub record Refuses (number place : ℕ) (r : Answer) : Type 0 where
-  pub number_is : r.number ≡ number
-  pub place_is : r.place ≡ place
-  pub root_is : r.root ≡ 0
-  pub count_is : r.count ≡ 0

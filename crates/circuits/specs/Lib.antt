@@ -5,6 +5,7 @@ pub mod Rule
 pub mod Build
 pub mod Value
 pub mod Check
+pub mod Malformed
 pub mod Evaluate
 pub mod Inside
 pub mod EvaluateInside

@@ -7,7 +7,11 @@ mod building;
 mod checking;
 mod evaluation;
 mod gates;
+mod kinds;
+mod refusals;
+mod rules;
 
-pub use checking::{Answer, check};
+pub use checking::{Answer, Circuit, Refusal, check};
 pub use evaluation::{Evaluated, evaluate, evaluate_gate};
 pub use gates::write_gate;
+pub use refusals::{GateFault, Malformed};

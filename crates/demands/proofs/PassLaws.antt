@@ -2,9 +2,8 @@
 use mathlib.Core.Path.{◌≡◌, refl, sym, ap, ◌∙◌}
 use mathlib.Core.Bool.{true, false, and-eq-true_iff, true≢false, not-eq-not}
 use mathlib.Core.List.{List, [], ◌∷◌}
-use Rattle.records.specs.declared.tests.Verdict.{Verdict}
 use Rattle.records.specs.Lists.{every}
-use Rattle.records.specs.Tests.{Test, first_failed}
+use Rattle.records.specs.Tests.{Verdict, Test, first_failed}
 use Rattle.records.proofs.TestLaws.{Passed, Numbered, passed_none, none_passed, no_test}
 use Rattle.demands.specs.Tables.{pass}
 

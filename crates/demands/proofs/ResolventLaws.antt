@@ -6,10 +6,9 @@ use mathlib.Core.List.{List}
 use mathlib.Core.Logic.{⊎_elim}
 use native.Mathlib.Omega.{arith}
 use lib.ListN.{length, drop}
-use Rattle.records.specs.declared.tests.Verdict.{Verdict}
 use Rattle.records.specs.Table.{record_at}
 use Rattle.records.specs.Step.{step_at, step_count}
-use Rattle.records.specs.Tests.{first_failed, refused}
+use Rattle.records.specs.Tests.{Verdict, first_failed, refused}
 use Rattle.records.specs.Derivation.{inputs, result_of, work_after, verdict_at, stop_at, ByRule, Derivation}
 use Rattle.records.proofs.NumberLaws.{strong, in_parts}
 use Rattle.records.proofs.TestLaws.{step_numbered, refused_not}

@@ -1,15 +1,13 @@
--- The laws of decimal text: its last digit, and how many digits a number has.
-use Prim.Native.Nat.{ℕ, zero, suc, ◌+◌, ◌/◌, ◌%◌, ◌^◌, ◌≤◌, ◌<◌}
-use mathlib.Core.Path.{◌≡◌, refl, ap}
+-- The laws of decimal text: its last digit, and that it is what the library writes.
+use Prim.Native.Nat.{ℕ, zero, suc, ◌/◌, ◌%◌, ◌^◌, ◌≤◌, ◌<◌}
+use mathlib.Core.Path.{◌≡◌, refl, sym, ap, ◌∙◌}
 use mathlib.Core.Bool.{Bool, true, false, cond}
 use mathlib.Core.List.{List, [], ◌∷◌, ◌++◌}
-use mathlib.Core.Logic.{by_cases}
-use native.Mathlib.Nat.{pow-suc}
 use native.Mathlib.Omega.{arith}
-use native.Mathlib.Decide.{dec_lt}
 use borrow.Author.Tests.{lt-ltb, le-ltb, ltb-false}
 use lib.Dec.{ltb}
-use lib.ListN.{length, length-append}
+use Rattle.std.specs.Fmt.{decimal as written}
+use Rattle.std.proofs.lemmas.Fmt.{decimal_by_steps}
 use Rattle.print.specs.Decimal.{digit, digits, decimal}
 
 -- more room for digits than a number has makes no difference
@@ -35,16 +33,8 @@ pub decimal_more : (n : ℕ) → 10 ≤ n → decimal n ≡ decimal (n / 10) ++ 
 unfolding decimal digits
 decimal_more n l = rw (le-ltb n 10 l) (ap (λ (ds : List ℕ). ds ++ (digit (n % 10) ∷ [])) (digits_same n (suc (n / 10)) (n / 10) (omega arith) (omega arith)))
 
-pub length_more : (n : ℕ) → 10 ≤ n → length (decimal n) ≡ length (decimal (n / 10)) + 1
-length_more n l = rw (decimal_more n l) (length-append (decimal (n / 10)) (digit (n % 10) ∷ []))
-
--- below 10 ^ k there are at most k digits
-pub decimal_short : (k n : ℕ) → n < 10 ^ suc k → length (decimal n) ≤ suc k
-decimal_short zero n p = rw (decimal_one n p) (omega arith)
-decimal_short (suc k) n p =
-    by_cases (dec_lt n 10) (λ l. rw (decimal_one n l) (omega arith))
-    (λ l. omega (arith, length_more n (omega arith), decimal_short k (n / 10) (omega (arith, pow-suc 10 (suc k)))))
-
--- a usize has at most 20
-pub number_short : (n : ℕ) → n < 18446744073709551616 → length (decimal n) ≤ 20
-number_short n l = decimal_short 19 n (omega arith)
+-- the text that the library writes for a number
+pub decimal_is : (n : ℕ) → n < 2 ^ 64 → written n ≡ decimal n
+decimal_is =
+    decimal_by_steps (λ n ds. ds ≡ decimal n) (λ n l. sym (decimal_one n l))
+    (λ n ds l e. ap (λ (xs : List ℕ). xs ++ (digit (n % 10) ∷ [])) e ∙ sym (decimal_more n l))

@@ -1,22 +1,18 @@
 -- The laws of the report: which files pass, that the gates of three files fit, and the text by its parts.
 use Prim.Native.Nat.{ℕ, ◌*◌, ◌≤◌}
-use mathlib.Core.Path.{◌≡◌, refl, sym, ap, ◌∙◌}
-use mathlib.Core.List.{List, append-nil}
+use mathlib.Core.Path.{◌≡◌, refl, sym, ◌∙◌}
+use mathlib.Core.List.{List, ◌++◌, append-nil}
 use native.Mathlib.Omega.{arith}
 use borrow.Author.Tests.{eq-eqb, ne_eqb, leb-true}
-use lib.ListN.{length, length-replicate}
-use Rattle.print.proofs.FileLaws.{prefix_len_of_le}
-use Rattle.records.specs.declared.tests.Verdict.{Verdict}
-use Rattle.records.specs.Tests.{first_failed, Says}
+use lib.ListN.{length, replicate}
+use Rattle.records.specs.Tests.{Verdict, first_failed, Says}
 use Rattle.records.proofs.TestLaws.{Numbered, none_passed}
 use Rattle.circuits.specs.declared.checking.Answer.{Answer}
 use Rattle.circuits.specs.Check.{plain_checked, Checks}
-use Rattle.circuits.proofs.GateLaws.{length_over}
 use Rattle.circuits.proofs.CheckLaws.{plain_acceptance, count_few, gates_length}
 use Rattle.print.specs.Line.{answer_line, gate_lines, printed_by, printed}
-use Rattle.print.specs.Report.{file_tests, own_work, own_gates, text_room, files_checked, answered, report_text, Reports}
-use Rattle.print.specs.Inside.{Writes}
-use Rattle.print.proofs.TextLaws.{writes_then}
+use Rattle.print.specs.Report.{file_tests, own_work, own_gates, files_checked, answered, report_text}
+use Rattle.print.proofs.TextLaws.{appended}
 
 -- no refusal: each file is within its limit
 files_numbered : (a b steps : List ℕ) → Numbered (file_tests a b steps)
@@ -39,19 +35,19 @@ gates_fit a b steps work gates r w g p l e n =
     (omega (arith, p.count), rw p.gates (omega (arith, p.count)))
 
 -- the text of an outcome: line one, and on acceptance the gates behind it
-pub refused_written : (number place root count : ℕ) (gates : List ℕ) {out out' : List ℕ} {r : ℕ} → (number ≡ 0 → ⊥) → Writes (answer_line number place root count) 0 out r out'
-    → Writes (printed_by number place root count gates) 0 out r out'
+pub refused_text : (number place root count : ℕ) (gates out : List ℕ) {out' : List ℕ} → (number ≡ 0 → ⊥) → out' ≡ out ++ answer_line number place root count
+    → out' ≡ out ++ printed_by number place root count gates
 unfolding printed_by
-refused_written number place root count gates n p = rw (ne_eqb number 0 n, append-nil) p
+refused_text number place root count gates out n p = rw (ne_eqb number 0 n, append-nil) p
 
-pub accepted_written : (number place root count : ℕ) (gates : List ℕ) {out out₁ out₂ : List ℕ} {m r : ℕ} → number ≡ 0 → Writes (answer_line number place root count) 0 out m out₁
-    → Writes (gate_lines gates count) m out₁ r out₂ → m ≤ length out → Writes (printed_by number place root count gates) 0 out r out₂
+pub accepted_text : (number place root count : ℕ) (gates out : List ℕ) {out₁ out₂ : List ℕ} → number ≡ 0 → out₁ ≡ out ++ answer_line number place root count
+    → out₂ ≡ out₁ ++ gate_lines gates count → out₂ ≡ out ++ printed_by number place root count gates
 unfolding printed_by
-accepted_written number place root count gates e p q l = rw (eq-eqb number 0 e) (writes_then p q l)
+accepted_text number place root count gates out e p q = rw (eq-eqb number 0 e) (appended (answer_line number place root count) (gate_lines gates count) out p q)
 
-pub printed_is : (a b steps work gates : List ℕ) (r : Answer) (w g : List ℕ) → Checks (plain_checked 32 1024 a b steps work gates) r w g → work ≡ own_work → gates ≡ own_gates
-    → printed_by r.number r.place r.root r.count g ≡ printed (files_checked a b steps)
-unfolding files_checked
+pub printed_is : (a b steps work gates : List ℕ) (r : Answer) (w g : List ℕ) → Checks (plain_checked 32 1024 a b steps work gates) r w g → work ≡ replicate 16384 0
+    → gates ≡ replicate 6144 0 → printed_by r.number r.place r.root r.count g ≡ printed (files_checked a b steps)
+unfolding files_checked own_work own_gates
 printed_is a b steps work gates r w g p e f = rw (p.number, p.place, p.root, p.count, p.gates, e, f) refl
 
 -- the report: a file's refusal, or else the outcome
@@ -63,19 +59,3 @@ module _ (a b steps : List ℕ) (v : Verdict) (says : Says (first_failed (file_t
   pub files_reported : v.number ≡ 0 → printed (files_checked a b steps) ≡ report_text a b steps
   unfolding report_text answered
   files_reported e = rw (eq-eqb (first_failed (file_tests a b steps)).number 0 (sym says.number ∙ e)) refl
-
--- the buffer once the text is written
-pub reported : (text room last : List ℕ) (r : ℕ) → Writes text 0 room r last → r ≤ 64596 → room ≡ text_room → Reports text (record { bytes = last; length = r })
-unfolding text_room
-reported text room last r p l e =
-    let long : length room ≡ 64596 = ap length e ∙ length-replicate {A = ℕ} 64596 0 in
-    let same = length_over room 0 text (omega (arith, p.ends)) in
-    record {
-      length_is = omega (arith, p.ends);
-      bytes_are = rw (← e) p.bytes;
-      fits = prefix_len_of_le r last (rw p.bytes (omega arith));
-    }
-
-pub own_gates_length : length own_gates ≡ 6144
-unfolding own_gates
-own_gates_length = length-replicate {A = ℕ} 6144 0

@@ -7,10 +7,9 @@ use native.Mathlib.Omega.{arith}
 use borrow.Author.Tests.{le-leb}
 use lib.Dec.{eqb, ltb}
 use lib.ListN.{length, length-replicate}
-use Rattle.records.specs.declared.tests.Verdict.{Verdict}
 use Rattle.records.specs.declared.steps.Step.{Step}
 use Rattle.records.specs.Step.{step_at, step_count}
-use Rattle.records.specs.Tests.{Test, first_failed, table_tests, room_tests, step_tests, root_tests}
+use Rattle.records.specs.Tests.{Verdict, Test, first_failed, table_tests, room_tests, step_tests, root_tests}
 use Rattle.records.specs.Derivation.{Outcome, and_then, verdict_at, stop_at, steps_verdict, ran, rooted, derived}
 use Rattle.circuits.specs.Check.{Checked, gate_room_tests, plain_tests, refusal, plain_accepted, unless_refused, plain_checked}
 use Rattle.print.specs.Report.{own_work, own_gates, files_checked, NoLimitMet, OwnTablesSuffice}

@@ -3,4 +3,3 @@ pub mod Decimal
 pub mod Line
 pub mod File
 pub mod Report
-pub mod Inside

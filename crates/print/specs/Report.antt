@@ -1,11 +1,9 @@
 -- The program's text, by the bytes of the three files. A file that can't be read counts as one that is longer: document 01 gives both the same line.
-use Rattle.std.specs.Prelude.{ℕ, ◌≤◌, ◌≡◌, cond, List, [], ◌∷◌, length, replicate, eqb, leb}
-use Rattle.std.specs.Counts.{IsPrefixLen}
-use Rattle.records.specs.declared.tests.Verdict.{Verdict}
-use Rattle.records.specs.Tests.{Test, test, first_failed}
-use Rattle.circuits.specs.Gate.{over}
+use Rattle.std.specs.Prelude.{ℕ, ◌≤◌, ◌≡◌, cond, List, [], ◌∷◌, length, replicate, eqb, leb, Result, Ok, Err, ⊤}
+use Rattle.records.specs.Tests.{Verdict, Test, test, first_failed}
 use Rattle.circuits.specs.Check.{Checked, plain_checked}
-use Rattle.print.specs.declared.report.Text.{Text}
+use Rattle.print.specs.declared.report.File.{File}
+use Rattle.print.specs.declared.report.File.TheVariants.{A, B, Steps}
 use Rattle.print.specs.Line.{answer_line, printed}
 
 -- "at most 16,384, 16,384 and 2,048 bytes .. The first one, in that order, that can't be read or is longer gives the one line `30 f 0 0`, f = 1, 2 or 3."
@@ -16,16 +14,23 @@ file_tests a b steps =
     ∷ (test (leb (length steps) 2048) 30 3
     ∷ []))
 
+-- the f of a refused file's line
+abbrev pub file_place : File → ℕ
+file_place A = 1
+file_place B = 2
+file_place Steps = 3
+
+-- number and place of the file that is refused; 0 and 0 where none is
+abbrev pub file_verdict : Result ⊤ File → Verdict
+file_verdict (Ok _) = record { number = 0; place = 0 }
+file_verdict (Err file) = record { number = 30; place = file_place file }
+
 -- "its own work and gate tables"
 unfoldable pub own_work : List ℕ
 own_work = replicate 16384 0
 
 unfoldable pub own_gates : List ℕ
 own_gates = replicate 6144 0
-
--- room for 769 lines of 84 bytes: line one and three gates for each of 256 steps
-unfoldable pub text_room : List ℕ
-text_room = replicate 64596 0
 
 -- the check over the three files
 unfoldable pub files_checked : List ℕ → List ℕ → List ℕ → Checked
@@ -45,9 +50,3 @@ answered v o = cond (eqb v.number 0) (printed o) (answer_line v.number v.place 0
 -- all that the program writes
 unfoldable pub report_text : List ℕ → List ℕ → List ℕ → List ℕ
 report_text a b steps = answered (first_failed (file_tests a b steps)) (files_checked a b steps)
-
--- r has the text, from the start of its buffer, which is zero behind it: the whole text, since it fits
-pub record Reports (text : List ℕ) (r : Text) : Type 0 where
-  pub length_is : r.length ≡ length text
-  pub bytes_are : r.bytes ≡ over text_room 0 text
-  pub fits : IsPrefixLen r.length r.bytes

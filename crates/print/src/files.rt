@@ -1,31 +1,28 @@
 // Reading a file whole.
-ghost use Rattle.std.specs.Prelude.{◌≡◌, ◌<◌, ◌≤◌, ◌<ℤ◌, pos, length, take, IfSome};
+ghost use Rattle.std.specs.Prelude.{◌≡◌, ℕ, ◌<◌, pos, Some, length, take, IfSome};
 ghost use Rattle.std.specs.Counts.{IsPrefixLen};
 ghost use Rattle.std.specs.Io.KnownBytes.{Consumes, IsAtEnd};
-ghost use Rattle.print.specs.File.{size_read};
+ghost use Rattle.print.specs.File.{IsSize};
 
 use std::fs::File;
 use std::io::Read;
 use std::rt::Files;
 
-// A file's size by what its open answered, the bytes that were read, and what one read behind them answered: 0 is the end, below 0 the read
-// failed, as each of a folder does, and above 0 there is more. What is not read to its end counts as `longer`.
-fn file_size(longer: usize, file: i32, size: usize, behind: isize) -> usize
-    ensures { result ≡ size_read longer file size behind }
+// A file's size, by the bytes that were read and what one read behind them gave. There is none where the file is not read to its end.
+fn file_size(size: usize, behind: Option<usize>) -> Option<usize>
+    ensures { IsSize size behind result }
 {
-    if file < 0 {
-        return longer;
+    match behind {
+        Some(0) => Some(size),
+        // There is more.
+        Some(_) => None,
+        // The read failed, as each of a folder does.
+        None => None,
     }
-    if behind < 0 {
-        return longer;
-    }
-    if behind > 0 {
-        return longer;
-    }
-    size
 }
 
-// Reads until the buffer is full, the input ends or a read fails, and answers how many bytes stand at the buffer's start.
+// Reads until the buffer is full, the input ends or a read fails, and answers how many bytes stand at the buffer's start. The loop goes by
+// bytes and not by turns, so that it is a `while`.
 fn read_full<R: Read>(reader: &mut R, to: &mut [u8]) -> usize
     ensures within { IsPrefixLen result to.new }
     ensures bytes { Consumes (R.remaining reader.old) (R.remaining reader.new) (take result to.new) }
@@ -45,37 +42,28 @@ fn read_full<R: Read>(reader: &mut R, to: &mut [u8]) -> usize
     done
 }
 
-// What one more read answers: how many bytes it gives, of one at most, or -1 where it fails.
-fn read_behind<R: Read>(reader: &mut R) -> isize
-    ensures ended { result ≡ pos 0 → IsAtEnd (R.remaining reader.old) }
-    ensures more { pos 0 <ℤ result → IfSome (R.remaining reader.old) (λ xs. 0 < length xs) }
+// What one more read gives: how many bytes, of one at most, or nothing where it fails.
+fn read_behind<R: Read>(reader: &mut R) -> Option<usize>
+    ensures ended { result ≡ Some 0 → IsAtEnd (R.remaining reader.old) }
+    ensures more { IfSome result (λ n. 0 < n → IfSome (R.remaining reader.old) (λ xs. 0 < length xs)) }
 {
     let mut more = [0u8; 1];
-    match reader.read(&mut more) {
-        Ok(n) => n as isize,
-        Err(_) => -1,
-    }
+    reader.read(&mut more).ok()
 }
 
-// Reads what was opened, of at most so many bytes, and answers how many there are. Within the limit stands only what the read behind the
-// bytes found ended.
-fn read_open<R: Read>(reader: &mut R, limit: usize, to: &mut [u8]) -> usize
-    requires { limit < length to.old }
-    ensures within { IsPrefixLen result to.new }
-    ensures whole { result ≤ limit → IfSome (R.remaining reader.old) (λ xs. take result to.new ≡ xs) }
+// Reads what was opened, of at most as many bytes as the buffer has, and answers how many there are, if it is read to its end.
+fn read_open<R: Read>(reader: &mut R, to: &mut [u8]) -> Option<usize>
+    ensures within { IfSome result (λ size. IsPrefixLen size to.new) }
+    ensures whole { IfSome result (λ size. IfSome (R.remaining reader.old) (λ xs. take size to.new ≡ xs)) }
 {
     let size = read_full(reader, to);
-    file_size(limit + 1, 0, size, read_behind(reader))
+    file_size(size, read_behind(reader))
 }
 
-// Reads a file of at most so many bytes, and answers how many it has. A file that can't be read or is longer is handed on as one that is
-// longer: `limit + 1` bytes. Where the open fails, below 0, nothing is read.
-pub(crate) fn read_file<R: Files>(rt: &R, path: &str, limit: usize, to: &mut [u8]) -> usize
-    requires { limit < length to.old }
-    ensures { IsPrefixLen result to.new }
+// Reads a file of at most as many bytes as the buffer has, and answers how many it has, if it can be read and is no longer.
+pub(crate) fn read_file<R: Files>(rt: &R, path: &str, to: &mut [u8]) -> Option<usize>
+    ensures { IfSome result (λ size. IsPrefixLen size to.new) }
 {
-    match File::open(rt, path) {
-        Ok(mut file) => read_open(&mut file, limit, to),
-        Err(_) => file_size(limit + 1, -1, 0, -1),
-    }
+    let mut file = File::open(rt, path).ok()?;
+    read_open(&mut file, to)
 }

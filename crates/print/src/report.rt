@@ -1,115 +1,97 @@
 // The report: which file is refused, and else the outcome of the check, as the whole text that the program writes.
-ghost use Rattle.std.specs.Prelude.{◌≡◌, ◌*◌, ◌≤◌, length};
+ghost use Rattle.std.specs.Prelude.{◌≡◌, ◌+◌, ◌*◌, ◌≤◌, ◌++◌, length, replicate};
+ghost use Rattle.arrayvec.specs.ArrayString.{array_string_len};
 ghost use Rattle.records.specs.Tests.{first_failed, Says};
 ghost use Rattle.print.specs.Line.{printed, printed_by};
-ghost use Rattle.print.specs.Report.{own_work, own_gates, text_room, file_tests, files_checked, report_text, Reports};
-ghost use Rattle.print.specs.Inside.{Writes};
+ghost use Rattle.print.specs.Report.{file_place, file_verdict, file_tests, files_checked, report_text};
 
-use crate::text::{write_answer, write_gates};
+use crate::text::{Text, write_answer, write_gates};
 
 // "At most 16,384, 16,384 and 2,048 bytes."
 pub(crate) const TABLE_LIMIT: usize = 16384;
 
 pub(crate) const STEPS_LIMIT: usize = 2048;
 
-// A text of so many bytes: at most 769 lines, line one and the gates of 256 steps, of at most 84 bytes.
-#[derive(Drop)]
-pub(crate) struct Text {
-    pub bytes: [u8; 64596],
-    pub length: usize,
+// The number of a file's refusal.
+const FILE_REFUSED: usize = 30;
+
+// A file that can't be read or is longer.
+#[derive(Clone, Copy, Debug, PartialEq, Eq, Hash)]
+pub(crate) enum File {
+    A,
+    B,
+    Steps,
 }
 
-// "Its own work and gate tables", and the room for the text. Each is made by a function of its own: its callers then know the table by its
-// name, and no goal holds thousands of zeros.
-fn own_work() -> [u8; 16384]
-    ensures { result ≡ own_work }
-{
-    [0; 16384]
+impl File {
+    // The f of its line.
+    fn place(self) -> usize
+        ensures { result ≡ file_place self }
+    {
+        match self {
+            File::A => 1,
+            File::B => 2,
+            File::Steps => 3,
+        }
+    }
 }
 
-fn own_gates() -> [u8; 6144]
-    ensures { result ≡ own_gates }
+// Zeros, made by a function of its own, so that no goal of its callers holds thousands of them.
+fn zeros<const N: usize>() -> [u8; N]
+    ensures { result ≡ replicate N 0 }
 {
-    [0; 6144]
-}
-
-fn text_room() -> [u8; 64596]
-    ensures { result ≡ text_room }
-{
-    [0; 64596]
+    [0; N]
 }
 
 // "The first one, in that order, that can't be read or is longer gives the one line `30 f 0 0`, f = 1, 2 or 3."
-fn test_files(a: &[u8], b: &[u8], steps: &[u8]) -> records::Verdict
-    ensures { Says (first_failed (file_tests a.now b.now steps.now)) result }
+fn test_files(a: &[u8], b: &[u8], steps: &[u8]) -> Result<(), File>
+    ensures { Says (first_failed (file_tests a.now b.now steps.now)) (file_verdict result) }
 {
     if TABLE_LIMIT < a.len() {
-        return records::Verdict {
-            number: 30,
-            place: 1,
-        };
+        return Err(File::A);
     }
     if TABLE_LIMIT < b.len() {
-        return records::Verdict {
-            number: 30,
-            place: 2,
-        };
+        return Err(File::B);
     }
     if STEPS_LIMIT < steps.len() {
-        return records::Verdict {
-            number: 30,
-            place: 3,
-        };
+        return Err(File::Steps);
     }
-    records::Verdict {
-        number: 0,
-        place: 0,
+    Ok(())
+}
+
+// The outcome of a check, with its gates on acceptance. Its four numbers are printed in either case, and `printed_by` asks the first of them: by
+// a `match` on the check's result the line would be written twice.
+fn write_outcome(text: &mut Text, answer: circuits::Answer, gates: &[u8])
+    requires fits { answer.number ≡ 0 → (answer.count ≤ 768) × (8 * answer.count ≤ length gates.now) }
+    requires empty { array_string_len text.old ≡ 0 }
+    ensures { text.new.bytes ≡ text.old.bytes ++ printed_by answer.number answer.place answer.root answer.count gates.now }
+{
+    write_answer(text, answer.number, answer.place, answer.root, answer.count);
+    if answer.number == 0 {
+        write_gates(text, gates, answer.count);
     }
 }
 
-// The outcome of a check, with its gates on acceptance.
-fn write_outcome(answer: circuits::Answer, gates: &[u8], out: &mut [u8]) -> usize
-    requires { (answer.number ≡ 0 → (answer.count ≤ 768) × (8 * answer.count ≤ length gates.now)) × (64596 ≤ length out.old) }
-    ensures { Writes (printed_by answer.number answer.place answer.root answer.count gates.now) 0 out.old result out.new × (result ≤ 64596) }
+// The check over tables within their limits, with the program's "own work and gate tables".
+fn write_checked(text: &mut Text, a: &[u8], b: &[u8], steps: &[u8])
+    requires within { length steps.now ≤ 2048 }
+    requires empty { array_string_len text.old ≡ 0 }
+    ensures { text.new.bytes ≡ text.old.bytes ++ printed (files_checked a.now b.now steps.now) }
 {
-    let number = answer.number;
-    let count = answer.count;
-    let behind = write_answer(number, answer.place, answer.root, count, out);
-    if number != 0 {
-        return behind;
-    }
-    write_gates(gates, count, out, behind)
-}
-
-// The check over tables within their limits, with the program's own work and gate tables.
-fn write_checked(a: &[u8], b: &[u8], steps: &[u8], out: &mut [u8]) -> usize
-    requires { (length steps.now ≤ 2048) × (64596 ≤ length out.old) }
-    ensures { Writes (printed (files_checked a.now b.now steps.now)) 0 out.old result out.new × (result ≤ 64596) }
-{
-    let mut work = own_work();
-    let mut gates = own_gates();
-    let answer = circuits::check(a, b, steps, &mut work, &mut gates);
-    write_outcome(answer, &gates, out)
-}
-
-// A file's refusal, or else the outcome of the check.
-fn write_report(a: &[u8], b: &[u8], steps: &[u8], out: &mut [u8]) -> usize
-    requires { 64596 ≤ length out.old }
-    ensures { Writes (report_text a.now b.now steps.now) 0 out.old result out.new × (result ≤ 64596) }
-{
-    let verdict = test_files(a, b, steps);
-    let number = verdict.number;
-    if number != 0 {
-        return write_answer(number, verdict.place, 0, 0, out);
-    }
-    write_checked(a, b, steps, out)
+    let mut work: [u8; 16384] = zeros();
+    let mut gates: [u8; 6144] = zeros();
+    let answer = circuits::check(a, b, steps, &mut work, &mut gates).into();
+    write_outcome(text, answer, &gates);
 }
 
 // All that the program writes, by what was read of the three files.
 pub(crate) fn report(a: &[u8], b: &[u8], steps: &[u8]) -> Text
-    ensures { Reports (report_text a.now b.now steps.now) result }
+    ensures { result.bytes ≡ report_text a.now b.now steps.now }
 {
-    let mut bytes = text_room();
-    let length = write_report(a, b, steps, &mut bytes);
-    Text { bytes, length }
+    let mut text = Text::new();
+    match test_files(a, b, steps) {
+        Ok(()) => write_checked(&mut text, a, b, steps),
+        Err(file) => write_answer(&mut text, FILE_REFUSED, file.place(), 0, 0),
+    }
+    text
 }

@@ -1,134 +1,105 @@
-// The text, written into a lent buffer: numbers, fields, the answer's line and the gates' lines.
+// The text: numbers, fields, the answer's line and the gates' lines, each appended to a string of fixed room.
 //
 // No line has more than 84 bytes: four fields of at most 20 bytes, as many as the largest usize has digits, and a byte behind each.
-ghost use Rattle.std.specs.Prelude.{◌≡◌, [], ◌∷◌, ◌+◌, ◌*◌, ◌≤◌, ◌<◌, length};
-ghost use Rattle.records.specs.Step.{pair_at};
+ghost use Rattle.std.specs.Prelude.{◌≡◌, ◌+◌, ◌*◌, ◌≤◌, ◌<◌, ◌++◌, length};
+ghost use Rattle.arrayvec.specs.ArrayString.{array_string_len};
 ghost use Rattle.circuits.specs.Gate.{gate_at};
 ghost use Rattle.print.specs.Decimal.{decimal};
-ghost use Rattle.print.specs.Decimal.{digit as decimal_digit};
-ghost use Rattle.print.specs.Line.{space, ended, line, kind_word, answer_line, gate_line, gate_lines};
-ghost use Rattle.print.specs.Inside.{Writes};
+ghost use Rattle.print.specs.Line.{ended, line, kind_word, answer_line, gate_line, gate_lines};
 
-fn write_byte(byte: u8, out: &mut [u8], at: usize) -> usize
-    requires { at < length out.old }
-    ensures { Writes (byte ∷ []) at out.old result out.new }
-{
-    out[at] = byte;
-    at + 1
-}
+use arrayvec::ArrayString;
+use itoa::Buffer;
 
-// The ASCII byte of a digit.
-fn digit(d: usize) -> u8
-    requires { d < 10 }
-    ensures { result ≡ decimal_digit d }
-{
-    48 + d as u8
-}
+// 769 lines of 84 bytes: line one, and three gates for each of 256 steps.
+const ROOM: usize = 64596;
 
-// The digits of n, the most significant first.
-fn write_number(n: usize, out: &mut [u8], at: usize) -> usize
-    requires { at + length (decimal n) ≤ length out.old }
-    ensures { Writes (decimal n) at out.old result out.new }
+pub(crate) type Text = ArrayString<ROOM>;
+
+// The digits of n.
+#[tactic(auto, using(crate::proofs::DecimalLaws::decimal_is))]
+fn write_number(text: &mut Text, n: usize)
+    requires { array_string_len text.old + 20 ≤ ROOM }
+    ensures bytes { text.new.bytes ≡ text.old.bytes ++ decimal n }
+    ensures short { array_string_len text.new ≤ array_string_len text.old + 20 }
 {
-    if n < 10 {
-        return write_byte(digit(n), out, at);
-    }
-    let last = write_number(n / 10, out, at);
-    write_byte(digit(n % 10), out, last)
+    let mut digits = Buffer::new();
+    text.push_str(digits.format(n));
 }
 
 // A number, and the byte that ends its field.
-fn write_field(n: usize, end: u8, out: &mut [u8], at: usize) -> usize
-    requires { at + 21 ≤ length out.old }
-    ensures { Writes (ended (decimal n) end) at out.old result out.new × (result ≤ at + 21) }
+fn write_field(text: &mut Text, n: usize, end: char)
+    requires room { array_string_len text.old + 21 ≤ ROOM }
+    requires ascii { end < 128 }
+    ensures bytes { text.new.bytes ≡ text.old.bytes ++ ended (decimal n) end }
+    ensures short { array_string_len text.new ≤ array_string_len text.old + 21 }
 {
-    let behind = write_number(n, out, at);
-    write_byte(end, out, behind)
+    write_number(text, n);
+    text.push(end);
 }
 
 // "Line one is number, place, root reference, gate count."
-pub(crate) fn write_answer(
-    number: usize,
-    place: usize,
-    root: usize,
-    count: usize,
-    out: &mut [u8],
-) -> usize
-    requires { 84 ≤ length out.old }
-    ensures { Writes (answer_line number place root count) 0 out.old result out.new × (result ≤ 84) }
+pub(crate) fn write_answer(text: &mut Text, number: usize, place: usize, root: usize, count: usize)
+    requires { array_string_len text.old + 84 ≤ ROOM }
+    ensures bytes { text.new.bytes ≡ text.old.bytes ++ answer_line number place root count }
+    ensures short { array_string_len text.new ≤ array_string_len text.old + 84 }
 {
-    let second = write_field(number, b' ', out, 0);
-    let third = write_field(place, b' ', out, second);
-    let fourth = write_field(root, b' ', out, third);
-    write_field(count, b'\n', out, fourth)
+    write_field(text, number, ' ');
+    write_field(text, place, ' ');
+    write_field(text, root, ' ');
+    write_field(text, count, '\n');
 }
 
-// `and` or `or`, and the space behind it.
-fn write_kind(kind: u8, out: &mut [u8], at: usize) -> usize
-    requires { at + 4 ≤ length out.old }
-    ensures { Writes (ended (kind_word kind) space) at out.old result out.new × (result ≤ at + 4) }
+// `and` or `or`, by a gate's byte 0. The byte is no enum here, since the definition too has a word for each byte.
+fn kind_word(kind: u8) -> &'static str
+    ensures word { result.now ≡ kind_word kind }
+    ensures short { length result.now ≤ 3 }
 {
-    if kind == 1 {
-        out[at] = b'a';
-        out[at + 1] = b'n';
-        out[at + 2] = b'd';
-        out[at + 3] = b' ';
-        return at + 4;
-    }
-    out[at] = b'o';
-    out[at + 1] = b'r';
-    out[at + 2] = b' ';
-    at + 3
+    if kind == 1 { "and" } else { "or" }
 }
 
-// The number in two bytes, little endian.
-fn pair(s: &[u8], at: usize) -> usize
-    requires { at + 1 < length s.now }
-    ensures { result ≡ pair_at s.now at }
+// The word, and the space behind it.
+fn write_kind(text: &mut Text, kind: u8)
+    requires { array_string_len text.old + 4 ≤ ROOM }
+    ensures bytes { text.new.bytes ≡ text.old.bytes ++ ended (kind_word kind) 32 }
+    ensures short { array_string_len text.new ≤ array_string_len text.old + 4 }
 {
-    s[at] as usize + 256 * (s[at + 1] as usize)
+    text.push_str(kind_word(kind));
+    text.push(' ');
 }
 
 // The four fields of a gate's line.
-fn write_fields(
-    reference: usize,
-    kind: u8,
-    left: usize,
-    right: usize,
-    out: &mut [u8],
-    at: usize,
-) -> usize
-    requires { at + 84 ≤ length out.old }
-    ensures { Writes (line (decimal reference) (kind_word kind) (decimal left) (decimal right)) at out.old result out.new × (result ≤ at + 84) }
+fn write_fields(text: &mut Text, reference: usize, kind: u8, left: usize, right: usize)
+    requires { array_string_len text.old + 84 ≤ ROOM }
+    ensures bytes { text.new.bytes ≡ text.old.bytes ++ line (decimal reference) (kind_word kind) (decimal left) (decimal right) }
+    ensures short { array_string_len text.new ≤ array_string_len text.old + 84 }
 {
-    let second = write_field(reference, b' ', out, at);
-    let third = write_kind(kind, out, second);
-    let fourth = write_field(left, b' ', out, third);
-    write_field(right, b'\n', out, fourth)
+    write_field(text, reference, ' ');
+    write_kind(text, kind);
+    write_field(text, left, ' ');
+    write_field(text, right, '\n');
 }
 
 // Gate k of a table that has it.
-fn write_gate(table: &[u8], k: usize, out: &mut [u8], at: usize) -> usize
-    requires { (8 * k + 8 ≤ length table.now) × (at + 84 ≤ length out.old) }
-    ensures { Writes (gate_line k (gate_at table.now k)) at out.old result out.new × (result ≤ at + 84) }
+fn write_gate(text: &mut Text, table: &[u8], k: usize)
+    requires within { 8 * k + 8 ≤ length table.now }
+    requires room { array_string_len text.old + 84 ≤ ROOM }
+    ensures bytes { text.new.bytes ≡ text.old.bytes ++ gate_line k (gate_at table.now k) }
+    ensures short { array_string_len text.new ≤ array_string_len text.old + 84 }
 {
     let start = 8 * k;
     let kind = table[start];
-    let left = pair(table, start + 2);
-    let right = pair(table, start + 4);
-    write_fields(514 + k, kind, left, right, out, at)
+    let left = u16::from_le_bytes([table[start + 2], table[start + 3]]);
+    let right = u16::from_le_bytes([table[start + 4], table[start + 5]]);
+    write_fields(text, 514 + k, kind, usize::from(left), usize::from(right));
 }
 
 // The first gates of a table, as many as the count.
-pub(crate) fn write_gates(table: &[u8], count: usize, out: &mut [u8], at: usize) -> usize
-    requires { (8 * count ≤ length table.now) × (at + 84 * count ≤ length out.old) }
-    ensures { Writes (gate_lines table.now count) at out.old result out.new × (result ≤ at + 84 * count) }
+pub(crate) fn write_gates(text: &mut Text, table: &[u8], count: usize)
+    requires within { 8 * count ≤ length table.now }
+    requires room { array_string_len text.old + 84 * count ≤ ROOM }
+    ensures { text.new.bytes ≡ text.old.bytes ++ gate_lines table.now count }
 {
-    let mut behind = at;
-    let mut k: usize = 0;
-    while k < count {
-        behind = write_gate(table, k, out, behind);
-        k += 1;
+    for k in 0..count {
+        write_gate(text, table, k);
     }
-    behind
 }

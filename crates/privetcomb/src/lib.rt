@@ -17,7 +17,7 @@ pub extern "C" fn privetcomb_check(
 ) -> circuits::Answer
     ensures { Checks (plain_checked 32 1024 a.now b.now steps.now work.old gates.old) result work.new gates.new }
 {
-    circuits::check(a, b, steps, work, gates)
+    circuits::check(a, b, steps, work, gates).into()
 }
 
 #[unsafe(no_mangle)]
@@ -28,12 +28,12 @@ pub extern "C" fn privetcomb_evaluate(
 ) -> circuits::Evaluated
     ensures { Evaluates (evaluated 32 3072 assignment.now table.now root) result }
 {
-    circuits::evaluate(assignment, table, root)
+    circuits::evaluate(assignment, table, root).into()
 }
 
 // Where a record stands in a table: at a start, so many bytes.
 #[repr(C)]
-#[derive(Drop)]
+#[derive(Clone, Copy, Debug, PartialEq, Eq, Hash)]
 pub struct Part {
     pub start: usize,
     pub length: usize,

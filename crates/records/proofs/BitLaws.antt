@@ -8,7 +8,7 @@ use native.Mathlib.Omega.{arith}
 use borrow.Author.Tests.{ne_eqb}
 use lib.Dec.{eqb}
 use lib.Pow.{shr-shr}
-use lib.Bits.{bit_and, bit_or, and_step, or_step, and_shr, or_shr, and_mask}
+use lib.Bits.{bit_and, bit_or, and_step, or_step, and_shr, or_shr, and_mask, or_add_and, and_le_l, and_le_r}
 use Rattle.records.specs.Bits.{bit_of, digit, number_of}
 
 -- the lowest bit, and the others
@@ -132,3 +132,11 @@ test_bit x (suc k) =
     let o : min (x % 2) (2 ^ suc k % 2) ≡ 0 = omega (arith, pow-suc 2 k) in
     ap (λ (y : ℕ). not (eqb y 0)) (and_step x (2 ^ suc k) ∙ ap₂ (λ (u v : ℕ). bit_and (x / 2) u * 2 + v) e o)
     ∙ ap not (double_zero (bit_and (x / 2) (2 ^ k))) ∙ test_bit (x / 2) k ∙ sym (bit_suc x k)
+
+-- two numbers are zero where they are zero joined
+pub or_zero : (x y : ℕ) → eqb (bit_or x y) 0 ≡ (eqb x 0 && eqb y 0)
+or_zero zero zero = refl
+or_zero zero (suc y) = ne_eqb (bit_or 0 (suc y)) 0 (omega (arith, or_add_and 0 (suc y), and_le_l 0 (suc y))) ∙ sym (ne_eqb (suc y) 0 (omega arith))
+or_zero (suc x) y =
+    ne_eqb (bit_or (suc x) y) 0 (omega (arith, or_add_and (suc x) y, and_le_r (suc x) y))
+    ∙ ap (λ (b : Bool). b && eqb y 0) (sym (ne_eqb (suc x) 0 (omega arith)))

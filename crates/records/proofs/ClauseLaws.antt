@@ -4,20 +4,21 @@ use mathlib.Core.Path.{◌≡◌, refl, sym, ap, ap₂, subst, ◌∙◌}
 use mathlib.Core.Bool.{Bool, true, false, not, ◌&&◌, ◌||◌, true≢false, and-false, and-true, cond}
 use mathlib.Core.List.{List, [], ◌∷◌}
 use native.Mathlib.Nat.{lt_of_le_of_lt, lt_irrefl, mul-le-mul_left}
+use native.Mathlib.Numerals.{add-one}
 use native.Mathlib.Decide.{dec_lt}
 use native.Mathlib.Omega.{arith}
 use borrow.Author.Tests.{eq-eqb, ne_eqb, eqb-true, eqb-false, lt-ltb, le-ltb, ltb-true, ltb-false}
 use borrow.Author.Count.{below_more}
 use lib.Dec.{eqb, ltb}
 use lib.ListN.{length, get_or, set, take, length-set, get_or-eq_default}
-use lib.Seq.{ext_get_or, get_or-take, get_or-set_same, get_or-set_other}
+use lib.Seq.{take-suc, ext_get_or, get_or-take, get_or-set_same, get_or-set_other}
 use lib.Bits.{bit_and, bit_or, and_le_l, or_lt}
 use Rattle.records.specs.Bits.{bit_of, number_of}
 use Rattle.records.specs.Lists.{every}
 use Rattle.records.specs.Clause.{has, literal, holds, bytes_of, without, resolved, resolvent, resolved_into, empty}
 use Rattle.records.specs.Inside.{all_but, Masks, mask_start, mask_without, positive_byte, negative_byte, joined}
-use Rattle.records.proofs.BitLaws.{bit_of_and, bit_of_or, bit_number_of, number_of_lt, number_of_same, bits_ext, zero_bit, test_bit}
-use Rattle.records.proofs.ListLaws.{length_tabulate, get_d_tabulate, holds_from, holds_all}
+use Rattle.records.proofs.BitLaws.{bit_of_and, bit_of_or, bit_number_of, number_of_lt, number_of_same, bits_ext, zero_bit, test_bit, or_zero}
+use Rattle.records.proofs.ListLaws.{length_tabulate, get_d_tabulate, holds_from, holds_all, every_snoc}
 
 -- every element is a byte
 abbrev pub Bytes : List ℕ → Type 0
@@ -161,6 +162,13 @@ empty_not [] i h = absurd (h refl)
 empty_not (x ∷ r) zero h = rw (ne_eqb x 0 h) refl
 empty_not (x ∷ r) (suc i) h = rw (empty_not r i h) (and-false (eqb x 0))
 
+-- bytes joined are zero where all of them are: one byte more
+pub empty_joined : (r : List ℕ) (all i : ℕ) → i < length r → eqb all 0 ≡ empty (take i r) → eqb (bit_or all (get_or r i 0)) 0 ≡ empty (take (i + 1) r)
+unfolding empty
+empty_joined r all i l e =
+    or_zero all (get_or r i 0) ∙ ap (λ (b : Bool). b && eqb (get_or r i 0) 0) e
+    ∙ sym (rw (add-one i, take-suc r i 0 l) (every_snoc (λ x. eqb x 0) (take i r) (get_or r i 0)))
+
 pub empty_byte : (r : List ℕ) → empty r ≡ true → (i : ℕ) → get_or r i 0 ≡ 0
 empty_byte r e i = go (eqb (get_or r i 0) 0) refl
   where
@@ -203,10 +211,6 @@ written_halves f g h out i v w l room all e d k m = (
   written_behind h g (set out i v) i w (omega (arith, length-set out i v))
       (λ j n. get_or-set_other out i (h + j) v 0 (λ q. lt_irrefl i (omega arith)) ∙ (all j n).1) d k m,
 )
-
--- and leaves what it has not come to
-pub unwritten : (f : ℕ → ℕ) (out : List ℕ) (i v : ℕ) → ((k : ℕ) → i ≤ k → get_or out k 0 ≡ f k) → (k : ℕ) → i + 1 ≤ k → get_or (set out i v) k 0 ≡ f k
-unwritten f out i v all k l = get_or-set_other out i k v 0 (λ q. lt_irrefl k (omega arith)) ∙ all k (omega arith)
 
 -- two records joined byte by byte
 pub joined_is : (from to out : List ℕ) → length out ≡ length to → ((k : ℕ) → k < length to → get_or out k 0 ≡ bit_or (get_or to k 0) (get_or from k 0)) → out ≡ joined from to

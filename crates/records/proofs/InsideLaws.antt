@@ -5,14 +5,13 @@ use mathlib.Core.Bool.{Bool, true, false, cond}
 use mathlib.Core.List.{List}
 use native.Mathlib.Omega.{arith}
 use borrow.Author.Tests.{leb-true}
-use lib.ListN.{length, take}
+use lib.ListN.{length}
 use Rattle.records.specs.declared.steps.Step.{Step}
 use Rattle.records.specs.Clause.{holds}
 use Rattle.records.specs.Step.{step_count}
 use Rattle.records.specs.Tests.{first_failed, table_tests, room_tests, step_tests}
 use Rattle.records.specs.Derivation.{inputs}
 use Rattle.records.specs.Inside.{Sized, OrderTested, PivotTaken, pivot_number}
-use Rattle.records.proofs.ClauseLaws.{holds_first}
 use Rattle.records.proofs.TestLaws.{none_passed, tables_numbered, room_numbered, left_lacks, right_lacks, none_fails}
 
 -- tests 1 to 5 leave the sizes that the pieces ask for
@@ -31,12 +30,11 @@ sized_by h most a b steps work least small few tables room =
     }
 
 -- a step refused by 7 or 8
-pub order_refused : (spare : Bool) (left right own r : ℕ) → 0 < r
-    → ((h : ℕ) (clause : ℕ → List ℕ) (i pivot : ℕ) → (first_failed (step_tests h clause own i (record { left = left; right = right; pivot = pivot; spare = spare }))).number ≡ r)
-    → OrderTested spare left right own r
-order_refused spare left right own r l e =
+pub order_refused : (s : Step) (own r : ℕ) → 0 < r
+    → ((h : ℕ) (clause : ℕ → List ℕ) (i : ℕ) → (first_failed (step_tests h clause own i s)).number ≡ r) → OrderTested s own r
+order_refused s own r l e =
     record {
-      bad = λ n h clause i pivot. sym (e h clause i pivot);
+      bad = λ n h clause i. sym (e h clause i);
       zeros = λ z. absurd (omega arith);
       left_earlier = λ z. absurd (omega arith);
       right_earlier = λ z. absurd (omega arith);
@@ -58,8 +56,3 @@ pivot_number_lem h clause own i s zeros left_earlier right_earlier =
 -- a refusal by 9 or 10 leaves the part
 pub pivot_refused : (h : ℕ) (left right : List ℕ) (p : ℕ) (part : List ℕ) (r : ℕ) → 0 < r → pivot_number h left right p ≡ r → PivotTaken h left right p part part r
 pivot_refused h left right p part r l e = record { number = sym e; good = λ z. absurd (omega arith); bad = λ n. refl }
-
--- the number is read from the records alone
-pub pivot_number_first : (h : ℕ) (left right : List ℕ) (p : ℕ) → pivot_number h (take (2 * h) left) (take (2 * h) right) p ≡ pivot_number h left right p
-unfolding pivot_number
-pivot_number_first h left right p = rw (holds_first h left true p, holds_first h right false p) refl

@@ -1,5 +1,6 @@
 -- The laws of the step layer, for the crates above, and the proofs of its functions.
 pub mod NumberLaws
+pub mod NamedLaws
 pub mod BitLaws
 pub mod ListLaws
 pub mod ClauseLaws

@@ -2,13 +2,16 @@
 use Prim.Native.Nat.{ℕ, zero, suc, ◌+◌, ◌-◌, ◌≤◌, ◌<◌}
 use mathlib.Core.Path.{◌≡◌, refl, sym, ap, ap₂, ◌∙◌, subst}
 use mathlib.Core.List.{List, [], ◌∷◌, ◌++◌}
-use mathlib.Core.Bool.{Bool, true, false, ◌&&◌, ◌||◌, cond, true≢false, or-true, or-false, or_assoc}
+use mathlib.Core.Bool.{Bool, true, false, ◌&&◌, ◌||◌, cond, true≢false, or-true, or-false, or_assoc, and-true, and_assoc}
 use native.Mathlib.Nat.{zero-add}
 use native.Mathlib.Numerals.{add-one}
 use native.Mathlib.Decide.{dec_lt}
 use native.Mathlib.Omega.{arith}
+use borrow.Author.Tests.{lt-ltb, le-ltb, ltb-true, ltb-false}
+use lib.Dec.{ltb}
 use lib.ListN.{length, get_or}
-use Rattle.records.specs.Lists.{tabulate, first, some, every}
+use Rattle.std.proofs.Common.{Some, None}
+use Rattle.records.specs.Lists.{tabulate, first, found, some, every}
 
 -- tabulate
 pub length_tabulate : {A : Type 0} (n : ℕ) (f : ℕ → A) → length (tabulate n f) ≡ n
@@ -106,6 +109,28 @@ first_same p q n e =
     first_is q n (first p n) (first_le p n) (λ k l. sym (e k (omega (arith, first_le p n))) ∙ first_before p n k l)
     (λ l. sym (e (first p n) l) ∙ first_holds p n l)
 
+-- a search's answer, by the number that is found
+pub found_at : (n k r : ℕ) → r ≡ k → r < n → Some r ≡ found n k
+found_at n k r e l = rw (← e, lt-ltb r n l) refl
+
+pub found_not : (n k : ℕ) → n ≤ k → None ≡ found n k
+found_not n k l = rw (le-ltb k n l) refl
+
+-- and the other way round
+pub found_some : (n k r : ℕ) → Some r ≡ found n k → (r ≡ k) × (k < n)
+found_some n k r e = go (ltb k n) refl e
+  where
+    go : (b : Bool) → ltb k n ≡ b → Some r ≡ cond b (Some k) None → (r ≡ k) × (k < n)
+    go true q f = (cc, ltb-true k n q)
+    go false q f = cc
+
+pub found_none : (n k : ℕ) → None ≡ found n k → n ≤ k
+found_none n k e = go (ltb k n) refl e
+  where
+    go : (b : Bool) → ltb k n ≡ b → None ≡ cond b (Some k) None → n ≤ k
+    go true q f = cc
+    go false q f = ltb-false k n q
+
 -- some and every, by the numbers of a list that a rule makes
 pub some_here : {A : Type 0} (p : A → Bool) (n : ℕ) (f : ℕ → A) (k : ℕ) → k < n → p (f k) ≡ true → some p (tabulate n f) ≡ true
 unfolding some tabulate
@@ -163,6 +188,11 @@ some_snoc p n f = ap (λ (m : ℕ). some p (tabulate m f)) (add-one n) ∙ go p 
     go : {A : Type 0} (p : A → Bool) (n : ℕ) (f : ℕ → A) → some p (tabulate (suc n) f) ≡ (some p (tabulate n f) || p (f n))
     go p zero f = or-false (p (f 0))
     go p (suc n) f = ap (λ (b : Bool). p (f 0) || b) (go p n (λ i. f (suc i))) ∙ sym (or_assoc (p (f 0)) (some p (tabulate n (λ i. f (suc i)))) (p (f (suc n))))
+
+pub every_snoc : {A : Type 0} (p : A → Bool) (xs : List A) (x : A) → every p (xs ++ (x ∷ [])) ≡ (every p xs && p x)
+unfolding every
+every_snoc p [] x = and-true (p x)
+every_snoc p (y ∷ ys) x = ap (λ (b : Bool). p y && b) (every_snoc p ys x) ∙ sym (and_assoc (p y) (every p ys) (p x))
 
 -- two tests that are true together are equal
 pub by_truth : (x y : Bool) → (x ≡ true → y ≡ true) → (y ≡ true → x ≡ true) → x ≡ y

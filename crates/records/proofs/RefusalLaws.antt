@@ -7,10 +7,9 @@ use mathlib.Core.Logic.{◌⊎◌, inl, inr, ⊎_elim, by_cases}
 use native.Mathlib.Decide.{dec_lt}
 use native.Mathlib.Omega.{arith}
 use lib.Dec.{eqb}
-use Rattle.records.specs.declared.tests.Verdict.{Verdict}
 use Rattle.records.specs.Clause.{empty}
 use Rattle.records.specs.Step.{step_at, step_count}
-use Rattle.records.specs.Tests.{first_failed, refused, table_tests, room_tests, step_tests}
+use Rattle.records.specs.Tests.{Verdict, first_failed, refused, table_tests, room_tests, step_tests}
 use Rattle.records.specs.Derivation.{inputs, clause_at, work_after, verdict_at, stop_at, root_of, Outcome, judged, and_then, ran, rooted, derived, Derives, clause_count, last_work, Sizes}
 use Rattle.records.proofs.ListLaws.{first_holds}
 use Rattle.records.proofs.TestLaws.{Passed, passed_none, sizes_pass, refused_not, refused_place, step_placed}

@@ -1,5 +1,5 @@
 -- The laws of tables: a record's bytes, a table with one record written anew, and what occurs in a table.
-use Prim.Native.Nat.{ℕ, zero, suc, ◌+◌, ◌-◌, ◌*◌, ◌/◌, ◌≤◌, ◌<◌}
+use Prim.Native.Nat.{ℕ, ◌+◌, ◌-◌, ◌*◌, ◌/◌, ◌≤◌, ◌<◌}
 use mathlib.Core.Path.{◌≡◌, refl, sym, ap, ◌∙◌, subst}
 use mathlib.Core.Bool.{Bool, true, false, ◌||◌, or-true}
 use mathlib.Core.List.{List, [], ◌++◌}
@@ -9,7 +9,6 @@ use native.Mathlib.Numerals.{add-one}
 use native.Mathlib.Omega.{arith}
 use native.Mathlib.Decide.{dec_lt}
 use borrow.Author.Tests.{le-leb, lt-leb}
-use lib.Bits.{bit_or, and_le_l, and_le_r, or_add_and, or_zero_l}
 use lib.ListN.{length, get_or, take, drop, take-append-drop, length-append, length-drop, get_or-append, get_or-eq_default}
 use lib.Seq.{get_or-take, get_or-drop, length-take-le, ext_get_or, take_at, drop_at, drop-drop}
 use Rattle.records.specs.Lists.{tabulate, some, every}
@@ -17,7 +16,7 @@ use Rattle.records.specs.Clause.{has, literal, holds, bytes_of, empty}
 use Rattle.records.specs.Inside.{joined}
 use Rattle.records.specs.Table.{record_at, records, put, first_empty, clauses_of, occurs, literals_of}
 use Rattle.records.proofs.ListLaws.{first_le, some_here, some_where, some_snoc, every_at, by_truth}
-use Rattle.records.proofs.ClauseLaws.{Bytes, has_bytes_of, bytes_of_below, joined_bytes_of, holds_has, holds_bound, literal_bound, empty_is, empty_not}
+use Rattle.records.proofs.ClauseLaws.{Bytes, has_bytes_of, bytes_of_below, joined_bytes_of, holds_has, holds_bound, literal_bound}
 
 -- a product is an unknown to `omega`: the laws speak of w * r + w
 pub next_record : (w r : ℕ) → w * (r + 1) ≡ w * r + w
@@ -56,10 +55,7 @@ record_at_out w t r h = rw (lt-leb (w * (r + 1)) (length t) (omega (arith, next_
 pub length_record_at : (w : ℕ) (t : List ℕ) (r : ℕ) → w * r + w ≤ length t → length (record_at w t r) ≡ w
 length_record_at w t r h = rw (record_at_in w t r h) (length-take-le w (drop (w * r) t) (omega (arith, length-drop (w * r) t)))
 
--- a record that a table has is whole, and n records are there where n fit
-pub record_size : (w : ℕ) (t : List ℕ) (r : ℕ) → 0 < w → r < records w t → length (record_at w t r) ≡ w
-record_size w t r p l = length_record_at w t r (whole w (length t) r p l)
-
+-- n records are there where n fit
 pub records_room : (w : ℕ) (t : List ℕ) (n : ℕ) → 0 < w → w * n ≤ length t → n ≤ records w t
 records_room w t n p l = (le-div_iff_mul-le p).1 (omega (arith, mul_comm n w))
 
@@ -74,22 +70,7 @@ short_record w t r h = go (dec_lt (length t) (w * r + w))
     go (yes l) = record_at_out w t r l
     go (no l) = absurd (omega (arith, length_record_at w t r (omega arith)))
 
--- a record is empty where its bytes are zero
--- bytes joined are zero where each is
-pub or_zero : (a b : ℕ) → bit_or a b ≡ 0 → (a ≡ 0) × (b ≡ 0)
-or_zero a b e = (omega (arith, or_add_and a b, and_le_r a b), omega (arith, or_add_and a b, and_le_l a b))
-
-pub or_not_zero : (a b : ℕ) (P : Type 0) → ((a ≡ 0 → ⊥) → P) → ((b ≡ 0 → ⊥) → P) → (bit_or a b ≡ 0 → ⊥) → P
-or_not_zero zero b P f g n = g (λ e. n (or_zero_l b ∙ e))
-or_not_zero (suc a) b P f g n = f (λ e. absurd (omega arith))
-
-pub record_empty : (w : ℕ) (t : List ℕ) (r : ℕ) → w * r + w ≤ length t → ((i : ℕ) → i < w → get_or t (w * r + i) 0 ≡ 0) → empty (record_at w t r) ≡ true
-record_empty w t r h z =
-    empty_is (record_at w t r) (λ i l. byte_record_at w t r i h (omega (arith, length_record_at w t r h)) ∙ z i (omega (arith, length_record_at w t r h)))
-
-pub record_not_empty : (w : ℕ) (t : List ℕ) (r i : ℕ) → w * r + w ≤ length t → i < w → (get_or t (w * r + i) 0 ≡ 0 → ⊥) → empty (record_at w t r) ≡ false
-record_not_empty w t r i h l n = empty_not (record_at w t r) i (λ e. n (sym (byte_record_at w t r i h l) ∙ e))
-
+-- a search ends within its records
 pub first_empty_le : (w : ℕ) (t : List ℕ) (n : ℕ) → first_empty w t n ≤ n
 unfolding first_empty
 first_empty_le w t n = omega (arith, first_le (λ r. empty (record_at w t r)) n)

@@ -7,12 +7,11 @@ use native.Mathlib.Omega.{arith}
 use borrow.Author.Tests.{eq-eqb, ne_eqb, eqb-true, lt-ltb, le-ltb, le-leb, leb-true}
 use lib.ListN.{length}
 use lib.Dec.{eqb, ltb}
-use Rattle.records.specs.declared.tests.Verdict.{Verdict}
 use Rattle.records.specs.declared.steps.Step.{Step}
 use Rattle.records.specs.Clause.{holds}
 use Rattle.records.specs.Step.{step_count}
 use Rattle.records.specs.Derivation.{clause_count, Sizes}
-use Rattle.records.specs.Tests.{Test, test, first_failed, refused, table_tests, room_tests, step_tests, root_tests}
+use Rattle.records.specs.Tests.{Verdict, Test, test, first_failed, refused, table_tests, room_tests, step_tests, root_tests}
 
 -- every test of the list passed
 abbrev pub Passed : List Test → Type 0

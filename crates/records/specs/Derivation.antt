@@ -1,12 +1,11 @@
 -- The derivation over tables A and B, the steps and the work table: where it stops, with which number, and what it leaves in the work table.
 use Rattle.std.specs.Prelude.{ℕ, zero, suc, ◌+◌, ◌-◌, ◌*◌, ◌%◌, ◌≤◌, ◌<◌, ◌≡◌, true, false, cond, List, [], length, eqb, ltb}
-use Rattle.records.specs.declared.tests.Verdict.{Verdict}
 use Rattle.records.specs.declared.steps.Step.{Step}
 use Rattle.records.specs.Lists.{first}
 use Rattle.records.specs.Clause.{holds, resolvent, empty}
 use Rattle.records.specs.Table.{record_at, records, put}
 use Rattle.records.specs.Step.{step_at, step_count}
-use Rattle.records.specs.Tests.{first_failed, refused, table_tests, room_tests, step_tests, root_tests}
+use Rattle.records.specs.Tests.{Verdict, first_failed, refused, table_tests, room_tests, step_tests, root_tests}
 
 -- how many input clauses there are
 abbrev pub inputs : ℕ → List ℕ → List ℕ → ℕ

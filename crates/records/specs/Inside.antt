@@ -1,12 +1,13 @@
 -- What the private pieces ask and promise. No public contract speaks of these.
-use Rattle.std.specs.Prelude.{ℕ, ◌+◌, ◌-◌, ◌*◌, ◌/◌, ◌%◌, ◌≤◌, ◌<◌, ◌≡◌, Bool, true, false, not, cond, List, eqb, length, get_or}
+use Rattle.std.specs.Prelude.{ℕ, ◌+◌, ◌-◌, ◌*◌, ◌/◌, ◌%◌, ◌≤◌, ◌<◌, ◌≡◌, true, false, not, cond, Result, Ok, Err, List, eqb, length, get_or}
 use Rattle.std.specs.Int.Bits.{bit_and, bit_or}
 use Rattle.records.specs.declared.steps.Step.{Step}
+use Rattle.records.specs.declared.refusals.StepFault.{StepFault}
 use Rattle.records.specs.Bits.{number_of}
 use Rattle.records.specs.Lists.{tabulate}
 use Rattle.records.specs.Clause.{holds, resolvent}
-use Rattle.records.specs.Table.{put}
 use Rattle.records.specs.Tests.{first_failed, step_tests}
+use Rattle.records.specs.Refusal.{fault_number}
 use Rattle.records.specs.Derivation.{inputs, clause_at, stored}
 
 -- the byte that has every bit but k
@@ -45,13 +46,17 @@ pub record Sized (h : ℕ) (a b work : List ℕ) (n : ℕ) : Type 0 where
   pub few : inputs h a b + n ≤ 1024
   pub room : 2 * h * n ≤ length work
 
--- r is the number of the test that a step fails, 7 or 8, whatever its pivot and the clauses are; or 0 where it fails neither
-pub record OrderTested (spare : Bool) (left right own r : ℕ) : Type 0 where
-  pub bad : (r ≡ 0 → ⊥) → (h : ℕ) (clause : ℕ → List ℕ) (i pivot : ℕ)
-      → r ≡ (first_failed (step_tests h clause own i (record { left = left; right = right; pivot = pivot; spare = spare }))).number
-  pub zeros : r ≡ 0 → spare ≡ true
-  pub left_earlier : r ≡ 0 → left < own
-  pub right_earlier : r ≡ 0 → right < own
+-- the number of a fault, or 0 where there is none
+abbrev pub faulted : Result (Unit {0}) StepFault → ℕ
+faulted (Ok x) = 0
+faulted (Err fault) = fault_number fault
+
+-- r is the number of the test that step s fails, 7 or 8, whatever the clauses are; or 0 where it fails neither
+pub record OrderTested (s : Step) (own r : ℕ) : Type 0 where
+  pub bad : (r ≡ 0 → ⊥) → (h : ℕ) (clause : ℕ → List ℕ) (i : ℕ) → r ≡ (first_failed (step_tests h clause own i s)).number
+  pub zeros : r ≡ 0 → s.spare ≡ true
+  pub left_earlier : r ≡ 0 → s.left < own
+  pub right_earlier : r ≡ 0 → s.right < own
 
 -- 9, 10 or 0
 unfoldable pub pivot_number : ℕ → List ℕ → List ℕ → ℕ → ℕ
@@ -62,12 +67,6 @@ pub record PivotTaken (h : ℕ) (left right : List ℕ) (pivot : ℕ) (part last
   pub number : r ≡ pivot_number h left right pivot
   pub good : r ≡ 0 → last ≡ resolvent h left right pivot
   pub bad : (r ≡ 0 → ⊥) → last ≡ part
-
--- the same of the antecedents by their numbers, and the work table
-pub record StepResolved (h : ℕ) (a b : List ℕ) (left right pivot i : ℕ) (work last : List ℕ) (r : ℕ) : Type 0 where
-  pub number : r ≡ pivot_number h (clause_at h a b work left) (clause_at h a b work right) pivot
-  pub good : r ≡ 0 → last ≡ put (2 * h) work i (resolvent h (clause_at h a b work left) (clause_at h a b work right) pivot)
-  pub bad : (r ≡ 0 → ⊥) → last ≡ work
 
 -- r is the number of the first test of step i that fails, or 0, and the work table afterwards has the step's resolvent, or is as it was where the step is refused
 pub record StepTaken (h : ℕ) (a b : List ℕ) (s : Step) (i : ℕ) (work last : List ℕ) (r : ℕ) : Type 0 where

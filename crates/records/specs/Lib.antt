@@ -5,6 +5,7 @@ pub mod Clause
 pub mod Table
 pub mod Step
 pub mod Tests
+pub mod Refusal
 pub mod Derivation
 pub mod Meaning
 pub mod Inside

@@ -1,10 +1,14 @@
 -- Document 01's table of numbers: each test with its number and its place, in the order in which they are tested.
 use Rattle.std.specs.Prelude.{ℕ, ◌+◌, ◌*◌, ◌%◌, ◌≡◌, Bool, true, false, not, ◌&&◌, cond, List, [], ◌∷◌, length, eqb, leb, ltb}
-use Rattle.records.specs.declared.tests.Verdict.{Verdict}
 use Rattle.records.specs.declared.steps.Step.{Step}
 use Rattle.records.specs.Clause.{holds}
 use Rattle.records.specs.Table.{records}
 use Rattle.records.specs.Step.{step_count}
+
+-- document 01's number and place: 0 and 0, or the root's clause number, where nothing is refused
+pub record Verdict : Type 0 where
+  pub number : ℕ
+  pub place : ℕ
 
 pub record Test : Type 0 where
   pub passed : Bool

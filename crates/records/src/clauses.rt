@@ -74,13 +74,11 @@ pub(crate) fn resolve_halves(
     ensures { part.new ≡ resolvent half left.now right.now pivot }
 {
     let from = mask_start(half, pivot);
-    let mut i: usize = 0;
-    while i < half {
+    for i in 0..half {
         let mask = masks[from + i];
         part[i] = (left[i] & mask) | right[i];
         let j = half + i;
         part[j] = left[j] | (right[j] & mask);
-        i += 1;
     }
 }
 
@@ -91,6 +89,6 @@ pub fn resolve(left: &[u8; 64], right: &[u8; 64], pivot: u8, part: &mut [u8])
 {
     if part.len() == 64 {
         let masks = all_masks();
-        resolve_halves(32, left, right, pivot as usize, &masks, part);
+        resolve_halves(32, left, right, usize::from(pivot), &masks, part);
     }
 }

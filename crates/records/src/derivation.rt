@@ -1,252 +1,188 @@
 // The derivation: the steps in order, each resolvent straight into its own record of the work table, and then the root.
 //
-// The pieces take the half, so that they serve records of up to 128 bytes; `derive` fixes it.
+// It takes the half as a const parameter, so that it serves records of up to 128 bytes; `derive` fixes it.
 ghost use Rattle.std.specs.Prelude.{◌≡◌, ◌+◌, ◌*◌, ◌≤◌, ◌<◌, length, take};
+ghost use Rattle.records.specs.Lists.{found};
 ghost use Rattle.records.specs.Table.{records};
 ghost use Rattle.records.specs.Step.{step_at, step_count};
 ghost use Rattle.records.specs.Derivation.{inputs, clause_at, root_of, and_then, ran, rooted, derived, Derives};
-ghost use Rattle.records.specs.Inside.{Masks, Sized, OrderTested, PivotTaken, StepResolved, StepTaken};
+ghost use Rattle.records.specs.Refusal.{tested, verdict_of};
+ghost use Rattle.records.specs.Inside.{Masks, Sized, faulted, OrderTested, PivotTaken, StepTaken};
 
 use crate::clauses::{all_masks, mask_of, resolve_halves};
+use crate::refusals::{Refusal, StepFault};
 use crate::steps::{Step, read_step};
 use crate::tables::{copy_record, first_empty_of};
-use crate::tests::{Verdict, test_room, test_tables};
+use crate::tests::{test_room, test_tables};
 
-// A copy of clause k, one of those that are there, in the first bytes of the part.
-fn fetch(half: usize, a: &[u8], b: &[u8], work: &[u8], k: usize, part: &mut [u8; 128])
-    requires { (0 < half) × (half ≤ 64) × (k < inputs half a.now b.now + records (2 * half) work.now) × (length part.old ≡ 128) }
-    ensures { (take (2 * half) part.new ≡ clause_at half a.now b.now work.now k) × (length part.new ≡ 128) }
-{
-    let size = 2 * half;
-    let in_a = a.len() / size;
-    if k < in_a {
-        copy_record(a, size, k, part);
-        return;
-    }
-    let j = k - in_a;
-    let in_b = b.len() / size;
-    if j < in_b {
-        copy_record(b, size, j, part);
-        return;
-    }
-    copy_record(work, size, j - in_b, part);
+// What every step reads: the tables A and B, whose records have HALF bytes for each sign, and the masks of all literals, which are laid
+// down once.
+#[derive(Clone, Copy)]
+struct Derivation<'a, const HALF: usize> {
+    a: &'a [u8],
+    b: &'a [u8],
+    masks: &'a [u8],
+    ghost half_least: { 0 < HALF },
+    ghost half_most: { HALF ≤ 64 },
+    ghost laid: { Masks HALF masks.now },
 }
 
-// Tests 7 and 8 of a step whose own clause number is own: the number of the refusal, or 0.
-fn test_order(spare: bool, left: usize, right: usize, own: usize) -> usize
-    ensures { OrderTested spare left right own result }
+// Tests 7 and 8 of a step whose own clause number is own.
+fn test_order(step: &Step, own: usize) -> Result<(), StepFault>
+    ensures { OrderTested step.now own (faulted result) }
 {
-    if !spare {
-        return 7;
+    if !step.spare {
+        return Err(StepFault::SpareByte);
     }
-    if own <= left {
-        return 8;
+    if own <= step.left {
+        return Err(StepFault::AntecedentNotEarlier);
     }
-    if own <= right {
-        return 8;
+    if own <= step.right {
+        return Err(StepFault::AntecedentNotEarlier);
     }
-    0
+    Ok(())
 }
 
-// Tests 9 and 10 on the antecedents, by one mask, and then the resolvent: the number of the refusal, or 0 and the resolvent in the part.
-fn resolve_tested(
-    half: usize,
-    left: &[u8; 128],
-    right: &[u8; 128],
-    pivot: usize,
-    masks: &[u8],
-    part: &mut [u8],
-) -> usize
-    requires { (half ≤ 64) × (length part.old ≡ 2 * half) × (length left.now ≡ 128) × (length right.now ≡ 128) × Masks half masks.now }
-    ensures { PivotTaken half left.now right.now pivot part.old part.new result }
-{
-    let variables = 8 * half;
-    if variables <= pivot {
-        return 9;
+impl<const HALF: usize> Derivation<'_, HALF> {
+    // How many clauses A and B have.
+    fn inputs(&self) -> usize
+        ensures { result ≡ inputs HALF self.now.a.now self.now.b.now }
+    {
+        let size = 2 * HALF;
+        self.a.len() / size + self.b.len() / size
     }
-    let at = pivot / 8;
-    let mask = mask_of(pivot % 8);
-    if left[at] & mask == 0 {
-        return 9;
-    }
-    if right[half + at] & mask == 0 {
-        return 10;
-    }
-    resolve_halves(half, left, right, pivot, masks, part);
-    0
-}
 
-// Step i over the clauses with numbers left and right, both earlier: the number of its refusal, or 0 and its resolvent in its own record. The
-// antecedents are copied once, to the first bytes of first and second; the tests read the copies, and are decided before a byte of the
-// record is written.
-fn resolve_step(
-    half: usize,
-    a: &[u8],
-    b: &[u8],
-    left: usize,
-    right: usize,
-    pivot: usize,
-    i: usize,
-    masks: &[u8],
-    work: &mut [u8],
-    first: &mut [u8; 128],
-    second: &mut [u8; 128],
-) -> usize
-    requires sized { Sized half a.now b.now work.old (i + 1) }
-    requires earlier { (left < inputs half a.now b.now + i) × (right < inputs half a.now b.now + i) }
-    requires arrays { (length first.old ≡ 128) × (length second.old ≡ 128) × Masks half masks.now }
-    ensures { StepResolved half a.now b.now left right pivot i work.old work.new result × (length first.new ≡ 128) × (length second.new ≡ 128) }
-{
-    fetch(half, a, b, work, left, first);
-    fetch(half, a, b, work, right, second);
-    let size = 2 * half;
-    let start = size * i;
-    let end = start + size;
-    resolve_tested(half, first, second, pivot, masks, &mut work[start..end])
-}
-
-// Step i, whose own clause number is own: the number of its refusal, or 0 and its resolvent in its own record. The antecedents are
-// copied to first and second.
-fn take_step(
-    half: usize,
-    a: &[u8],
-    b: &[u8],
-    own: usize,
-    step: Step,
-    i: usize,
-    masks: &[u8],
-    work: &mut [u8],
-    first: &mut [u8; 128],
-    second: &mut [u8; 128],
-) -> usize
-    requires sized { Sized half a.now b.now work.old (i + 1) }
-    requires own_number { own ≡ inputs half a.now b.now + i }
-    requires arrays { (length first.old ≡ 128) × (length second.old ≡ 128) × Masks half masks.now }
-    ensures { StepTaken half a.now b.now step i work.old work.new result × (length first.new ≡ 128) × (length second.new ≡ 128) }
-{
-    let spare = step.spare;
-    let left = step.left;
-    let right = step.right;
-    let pivot = step.pivot;
-    let number = test_order(spare, left, right, own);
-    if number != 0 {
-        return number;
-    }
-    resolve_step(
-        half, a, b, left, right, pivot, i, masks, work, first, second,
-    )
-}
-
-// All steps in order up to the first that fails. The masks and the two arrays for the antecedents' copies serve every step, so that
-// they are laid down once.
-fn run_steps(
-    half: usize,
-    a: &[u8],
-    b: &[u8],
-    steps: &[u8],
-    masks: &[u8],
-    work: &mut [u8],
-) -> Verdict
-    requires { Sized half a.now b.now work.old (step_count steps.now) × Masks half masks.now }
-    ensures { Derives (ran half a.now b.now (step_at steps.now) (step_count steps.now) work.old) work.new result }
-{
-    let size = 2 * half;
-    let own = a.len() / size + b.len() / size;
-    let n = steps.len() / 8;
-    let mut first = [0u8; 128];
-    let mut second = [0u8; 128];
-    let mut i: usize = 0;
-    while i < n {
-        let step = read_step(steps, i);
-        let number = take_step(
-            half,
-            a,
-            b,
-            own + i,
-            step,
-            i,
-            masks,
-            work,
-            &mut first,
-            &mut second,
-        );
-        if number != 0 {
-            return Verdict { number, place: i };
+    // A copy of clause k, one of those that are there, to the front of a part.
+    fn copy_clause(&self, results: &[u8], k: usize, part: &mut [u8; 128])
+        requires { k < inputs HALF self.now.a.now self.now.b.now + records (2 * HALF) results.now }
+        ensures { take (2 * HALF) part.new ≡ clause_at HALF self.now.a.now self.now.b.now results.now k }
+    {
+        let size = 2 * HALF;
+        let in_a = self.a.len() / size;
+        if k < in_a {
+            copy_record(self.a, size, k, part);
+            return;
         }
-        i += 1;
+        let j = k - in_a;
+        let in_b = self.b.len() / size;
+        if j < in_b {
+            copy_record(self.b, size, j, part);
+            return;
+        }
+        copy_record(results, size, j - in_b, part);
     }
-    Verdict {
-        number: 0,
-        place: 0,
+
+    // Tests 9 and 10 on the antecedents, by one mask, and then the resolvent in the part, of which no byte is written before.
+    fn resolve_tested(
+        &self,
+        left: &[u8],
+        right: &[u8],
+        pivot: usize,
+        part: &mut [u8],
+    ) -> Result<(), StepFault>
+        requires { (length left.now ≡ 2 * HALF) × (length right.now ≡ 2 * HALF) × (length part.old ≡ 2 * HALF) }
+        ensures { PivotTaken HALF left.now right.now pivot part.old part.new (faulted result) }
+    {
+        let variables = 8 * HALF;
+        if variables <= pivot {
+            return Err(StepFault::LeftLacksPivot);
+        }
+        let at = pivot / 8;
+        let mask = mask_of(pivot % 8);
+        if left[at] & mask == 0 {
+            return Err(StepFault::LeftLacksPivot);
+        }
+        if right[HALF + at] & mask == 0 {
+            return Err(StepFault::RightLacksPivot);
+        }
+        resolve_halves(HALF, left, right, pivot, self.masks, part);
+        Ok(())
+    }
+
+    // Step i, whose own clause number is own: its fault, or its resolvent in its own record. The antecedents are earlier, so that they
+    // stand before the record that is written; they are copied, so that the compiler need not ask at each step whether they meet it.
+    fn take_step(
+        &self,
+        step: Step,
+        i: usize,
+        own: usize,
+        work: &mut [u8],
+        left: &mut [u8; 128],
+        right: &mut [u8; 128],
+    ) -> Result<(), StepFault>
+        requires sized { Sized HALF self.now.a.now self.now.b.now work.old (i + 1) }
+        requires own_number { own ≡ inputs HALF self.now.a.now self.now.b.now + i }
+        ensures { StepTaken HALF self.now.a.now self.now.b.now step i work.old work.new (faulted result) }
+    {
+        test_order(&step, own)?;
+        let size = 2 * HALF;
+        self.copy_clause(work, step.left, left);
+        self.copy_clause(work, step.right, right);
+        let start = size * i;
+        let part = &mut work[start..start + size];
+        self.resolve_tested(&left[..size], &right[..size], step.pivot, part)
+    }
+
+    // All steps in order up to the first that has a fault.
+    fn run_steps(&self, steps: &[u8], work: &mut [u8]) -> Result<(), Refusal>
+        requires { Sized HALF self.now.a.now self.now.b.now work.old (step_count steps.now) }
+        ensures { Derives (ran HALF self.now.a.now self.now.b.now (step_at steps.now) (step_count steps.now) work.old) work.new (tested result) }
+    {
+        let mut left = [0u8; 128];
+        let mut right = [0u8; 128];
+        let inputs = self.inputs();
+        let n = steps.len() / 8;
+        for i in 0..n {
+            let step = read_step(steps, i);
+            // A closure for `map_err` would borrow the counter.
+            if let Err(fault) = self.take_step(step, i, inputs + i, work, &mut left, &mut right) {
+                return Err(Refusal::AtStep(fault, i));
+            }
+        }
+        Ok(())
+    }
+
+    // The first empty clause of A, B and the first n results.
+    fn find_root(&self, work: &[u8], n: usize) -> Option<usize>
+        requires { Sized HALF self.now.a.now self.now.b.now work.now n }
+        ensures { result ≡ found (inputs HALF self.now.a.now self.now.b.now + n) (root_of HALF self.now.a.now self.now.b.now work.now (inputs HALF self.now.a.now self.now.b.now + n)) }
+    {
+        let size = 2 * HALF;
+        let in_a = self.a.len() / size;
+        if let Some(k) = first_empty_of(self.a, size, in_a) {
+            return Some(k);
+        }
+        let in_b = self.b.len() / size;
+        if let Some(k) = first_empty_of(self.b, size, in_b) {
+            return Some(in_a + k);
+        }
+        let k = first_empty_of(work, size, n)?;
+        Some(in_a + in_b + k)
+    }
+
+    // The steps, and then the root.
+    fn derive(&self, steps: &[u8], work: &mut [u8]) -> Result<usize, Refusal>
+        requires { Sized HALF self.now.a.now self.now.b.now work.old (step_count steps.now) }
+        ensures { Derives (and_then (ran HALF self.now.a.now self.now.b.now (step_at steps.now) (step_count steps.now) work.old) (rooted HALF self.now.a.now self.now.b.now (step_count steps.now))) work.new (verdict_of result) }
+    {
+        self.run_steps(steps, work)?;
+        self.find_root(work, steps.len() / 8)
+            .ok_or(Refusal::NoEmptyClause)
     }
 }
 
-// The first empty clause of A, B and the first n results, or the number of these clauses.
-fn find_root(half: usize, a: &[u8], b: &[u8], work: &[u8], n: usize) -> usize
-    requires { Sized half a.now b.now work.now n }
-    ensures { result ≡ root_of half a.now b.now work.now (inputs half a.now b.now + n) }
+// The derivation over tables A and B, the steps and the work table: the root's clause number, or why it is refused. Refusals of tests 1 to
+// 5 write nothing, of 7 to 10 leave the resolvents of the steps before, of 11 all of them.
+pub fn derive(a: &[u8], b: &[u8], steps: &[u8], work: &mut [u8]) -> Result<usize, Refusal>
+    ensures { Derives (derived 32 1024 a.now b.now steps.now work.old) work.new (verdict_of result) }
 {
-    let size = 2 * half;
-    let in_a = a.len() / size;
-    let of_a = first_empty_of(a, size, in_a);
-    if of_a < in_a {
-        return of_a;
-    }
-    let in_b = b.len() / size;
-    let of_b = first_empty_of(b, size, in_b);
-    if of_b < in_b {
-        return in_a + of_b;
-    }
-    in_a + in_b + first_empty_of(work, size, n)
-}
-
-// The steps, and then the root: 7 to 11, or 0 and the root's clause number.
-fn derive_halves(
-    half: usize,
-    a: &[u8],
-    b: &[u8],
-    steps: &[u8],
-    masks: &[u8],
-    work: &mut [u8],
-) -> Verdict
-    requires { Sized half a.now b.now work.old (step_count steps.now) × Masks half masks.now }
-    ensures { Derives (and_then (ran half a.now b.now (step_at steps.now) (step_count steps.now) work.old) (rooted half a.now b.now (step_count steps.now))) work.new result }
-{
-    let ran = run_steps(half, a, b, steps, masks, work);
-    let number = ran.number;
-    if number != 0 {
-        return ran;
-    }
-    let size = 2 * half;
-    let n = steps.len() / 8;
-    let root = find_root(half, a, b, work, n);
-    if root < a.len() / size + b.len() / size + n {
-        return Verdict {
-            number: 0,
-            place: root,
-        };
-    }
-    Verdict {
-        number: 11,
-        place: 0,
-    }
-}
-
-// The derivation over tables A and B, the steps and the work table: a refusal of tests 1 to 5, 7 to 10 with its step, or 11;
-// or 0 and the root's clause number. Refusals 1 to 5 write nothing, 7 to 10 leave the resolvents of the steps before, 11 all of them.
-pub fn derive(a: &[u8], b: &[u8], steps: &[u8], work: &mut [u8]) -> Verdict
-    ensures { Derives (derived 32 1024 a.now b.now steps.now work.old) work.new result }
-{
-    let tables = test_tables(a, b, steps);
-    let of_tables = tables.number;
-    if of_tables != 0 {
-        return tables;
-    }
-    let room = test_room(steps, work);
-    let of_room = room.number;
-    if of_room != 0 {
-        return room;
-    }
+    test_tables(a, b, steps)?;
+    test_room(steps, work)?;
     let masks = all_masks();
-    derive_halves(32, a, b, steps, &masks, work)
+    let derivation: Derivation<'_, 32> = Derivation {
+        a,
+        b,
+        masks: &masks,
+    };
+    derivation.derive(steps, work)
 }

@@ -5,12 +5,14 @@
 
 mod clauses;
 mod derivation;
+mod refusals;
 mod steps;
 mod tables;
 mod tests;
 
 pub use clauses::{has_literal, resolve};
 pub use derivation::derive;
+pub use refusals::{Refusal, StepFault};
 pub use steps::{Step, read_step};
 pub use tables::{first_empty, literals_of, record};
-pub use tests::{Verdict, test_room, test_tables};
+pub use tests::{test_room, test_tables};

@@ -1,8 +1,18 @@
-// Tables of records: handing one back, copying one, the first that is empty, and all literals of a table.
+// Tables of records: handing one back, the first that is empty, and all literals of a table.
 ghost use Rattle.std.specs.Prelude.{◌≡◌, ◌+◌, ◌*◌, ◌/◌, ◌<◌, ◌≤◌, length, take, false};
+ghost use Rattle.records.specs.Lists.{found};
 ghost use Rattle.records.specs.Clause.{bytes_of};
 ghost use Rattle.records.specs.Table.{record_at, records, first_empty, literals_of};
 ghost use Rattle.records.specs.Inside.{joined};
+
+// Record r, which the table has: the bytes from size * r.
+pub(crate) fn part_of(table: &[u8], size: usize, r: usize) -> &[u8]
+    requires { (0 < size) × (r < records size table.now) }
+    ensures { result.now ≡ record_at size table.now r }
+{
+    let start = size * r;
+    &table[start..start + size]
+}
 
 // Record r of a table of records of `size` bytes: the caller's own bytes from size * r, or the empty part where they are not all there.
 pub(crate) fn record_of(table: &[u8], size: usize, r: usize) -> &[u8]
@@ -10,9 +20,7 @@ pub(crate) fn record_of(table: &[u8], size: usize, r: usize) -> &[u8]
     ensures { result.now ≡ record_at size table.now r }
 {
     if r < table.len() / size {
-        let start = size * r;
-        let end = start + size;
-        &table[start..end]
+        part_of(table, size, r)
     } else {
         &table[..0]
     }
@@ -25,28 +33,26 @@ pub fn record(table: &[u8], r: usize) -> &[u8]
     record_of(table, 64, r)
 }
 
-// A copy of record r, which the table has, into the first bytes of a part that has room for a record of up to 128.
+// A copy of record r, which the table has, to the front of a part. The loop is compiled to wide moves, the library's `copy_from_slice` to one
+// move a byte.
 pub(crate) fn copy_record(table: &[u8], size: usize, r: usize, part: &mut [u8; 128])
-    requires { (0 < size) × (size ≤ 128) × (r < records size table.now) × (length part.old ≡ 128) }
-    ensures { (take size part.new ≡ record_at size table.now r) × (length part.new ≡ 128) }
+    requires { (0 < size) × (size ≤ 128) × (r < records size table.now) }
+    ensures { take size part.new ≡ record_at size table.now r }
 {
     let start = size * r;
-    let mut i: usize = 0;
-    while i < size {
+    for i in 0..size {
         part[i] = table[start + i];
-        i += 1;
     }
 }
 
-// The literals of a record added to those of another of the same length.
+// The literals of a record added to those of another of the same length. Over `iter_mut().zip(..)` no more is known of the bytes behind the
+// loop, so that it goes by the index.
 fn join(from: &[u8], to: &mut [u8])
     requires { length to.old ≡ length from.now }
     ensures { to.new ≡ joined from.now to.old }
 {
-    let mut i: usize = 0;
-    while i < from.len() {
-        to[i] = to[i] | from[i];
-        i += 1;
+    for (i, byte) in from.iter().enumerate() {
+        to[i] |= *byte;
     }
 }
 
@@ -56,42 +62,34 @@ fn join_all(half: usize, table: &[u8], all: &mut [u8])
     ensures { all.new ≡ literals_of half table.now }
 {
     let size = 2 * half;
-    let n = table.len() / size;
-    let mut r: usize = 0;
-    while r < n {
-        let start = size * r;
-        let end = start + size;
-        join(&table[start..end], all);
-        r += 1;
+    for r in 0..table.len() / size {
+        join(part_of(table, size, r), all);
     }
 }
 
-// The first of n records all of whose bytes are zero, or n. A record's bytes are joined and not left at the first that is not zero: so the
+// The first of n records all of whose bytes are zero. A record's bytes are joined and not left at the first that is not zero: so the
 // compiler takes sixteen at a time, and the processor need not guess where it is.
-pub(crate) fn first_empty_of(table: &[u8], size: usize, n: usize) -> usize
+pub(crate) fn first_empty_of(table: &[u8], size: usize, n: usize) -> Option<usize>
     requires { (0 < size) × (n ≤ records size table.now) }
-    ensures { result ≡ first_empty size table.now n }
+    ensures { result ≡ found n (first_empty size table.now n) }
 {
-    let mut r: usize = 0;
-    'records: while r < n {
-        let start = size * r;
+    let mut first = None;
+    'records: for r in 0..n {
         let mut all: u8 = 0;
-        let mut i: usize = 0;
-        while i < size {
-            all = all | table[start + i];
-            i += 1;
+        for byte in part_of(table, size, r) {
+            all |= *byte;
         }
         if all == 0 {
+            first = Some(r);
             break 'records;
         }
-        r += 1;
     }
-    r
+    first
 }
 
-// The number of the first record all of whose 64 bytes are zero, or the number of records.
-pub fn first_empty(table: &[u8]) -> usize
-    ensures { result ≡ first_empty 64 table.now (records 64 table.now) }
+// The number of the first record all of whose 64 bytes are zero.
+pub fn first_empty(table: &[u8]) -> Option<usize>
+    ensures { result ≡ found (records 64 table.now) (first_empty 64 table.now (records 64 table.now)) }
 {
     first_empty_of(table, 64, table.len() / 64)
 }

@@ -1,86 +1,77 @@
-// Making tables: literals and steps put into records, and P1's three tables.
+// Making tables: clauses by their literals, steps, and P1's three tables. This program makes its tables on its own, as gate_cases does: a
+// library for both would need public contracts and edits for a few lines.
+ghost use Rattle.std.specs.Prelude.{◌<◌};
+
+use std::fmt;
 
 // What the work table is filled with before a call. No result here has such a byte, so each byte written shows.
 pub(crate) const JUNK: u8 = 0xA5;
 
-// Literals by their bit in a record: v for a variable, 256 + v for its negation.
-pub(crate) const X0: usize = 0;
-
-const X1: usize = 1;
-
-const X2: usize = 2;
-
-pub(crate) const NOT_X0: usize = 256;
-
-const NOT_X1: usize = 257;
-
-const NOT_X2: usize = 258;
-
-// Adds a literal to record r. A record or a literal that is not there is left alone.
-fn put_literal(table: &mut [u8], r: usize, literal: usize) {
-    if table.len() / 64 <= r {
-        return;
-    }
-    if 512 <= literal {
-        return;
-    }
-    let at = 64 * r + literal / 8;
-    let bit = (literal % 8) as u8;
-    table[at] = table[at] | 1u8 << bit;
+// A variable, or its negation.
+#[derive(Clone, Copy)]
+pub(crate) enum Literal {
+    Positive(u8),
+    Negative(u8),
 }
 
-// Adds two literals to record r; a clause of one literal names it twice.
-fn put_clause(table: &mut [u8], r: usize, first: usize, second: usize) {
-    put_literal(table, r, first);
-    put_literal(table, r, second);
-}
+pub(crate) const X0: Literal = Literal::Positive(0);
 
-// A table of one such clause.
-pub(crate) fn clause(first: usize, second: usize) -> [u8; 64] {
-    let mut table = [0u8; 64];
-    put_clause(&mut table, 0, first, second);
-    table
-}
+const X1: Literal = Literal::Positive(1);
 
-// Stores a byte where the table has that place.
-fn put_byte(table: &mut [u8], at: usize, byte: u8) {
-    if at < table.len() {
-        table[at] = byte;
+const X2: Literal = Literal::Positive(2);
+
+pub(crate) const NOT_X0: Literal = Literal::Negative(0);
+
+const NOT_X1: Literal = Literal::Negative(1);
+
+const NOT_X2: Literal = Literal::Negative(2);
+
+impl Literal {
+    // The literal's bit in a record: v for a variable, 256 + v for its negation.
+    pub(crate) fn bit(self) -> usize
+        ensures { result < 512 }
+    {
+        match self {
+            Literal::Positive(v) => usize::from(v),
+            Literal::Negative(v) => 256 + usize::from(v),
+        }
     }
 }
 
-// Writes step i where the table has it. Clause numbers here fit one byte, so the second byte of each stays zero.
-pub(crate) fn put_step(steps: &mut [u8], i: usize, left: u8, right: u8, pivot: u8) {
-    if steps.len() / 8 <= i {
-        return;
+impl fmt::Display for Literal {
+    fn fmt<W: fmt::Write>(&self, f: &mut fmt::Formatter<W>) -> fmt::Result {
+        match self {
+            Literal::Positive(v) => write!(f, "x{v}"),
+            Literal::Negative(v) => write!(f, "-x{v}"),
+        }
     }
-    let at = 8 * i;
-    put_byte(steps, at, left);
-    put_byte(steps, at + 2, right);
-    put_byte(steps, at + 4, pivot);
+}
+
+// The record of a clause.
+pub(crate) fn clause(literals: &[Literal]) -> [u8; 64] {
+    let mut record = [0u8; 64];
+    for literal in literals {
+        let bit = literal.bit();
+        record[bit / 8] |= 1 << (bit % 8);
+    }
+    record
+}
+
+// A step's record. Clause numbers here fit one byte; the spare byte is the first of three.
+pub(crate) fn step(left: u8, right: u8, pivot: u8, spare: u8) -> [u8; 8] {
+    [left, 0, right, 0, pivot, spare, 0, 0]
 }
 
 // {x0}, {not x0, x1}.
-pub(crate) fn p1_a() -> [u8; 128] {
-    let mut a = [0u8; 128];
-    put_clause(&mut a, 0, X0, X0);
-    put_clause(&mut a, 1, NOT_X0, X1);
-    a
+pub(crate) fn p1_a() -> [[u8; 64]; 2] {
+    [clause(&[X0]), clause(&[NOT_X0, X1])]
 }
 
 // {not x1, x2}, {not x2}.
-pub(crate) fn p1_b() -> [u8; 128] {
-    let mut b = [0u8; 128];
-    put_clause(&mut b, 0, NOT_X1, X2);
-    put_clause(&mut b, 1, NOT_X2, NOT_X2);
-    b
+pub(crate) fn p1_b() -> [[u8; 64]; 2] {
+    [clause(&[NOT_X1, X2]), clause(&[NOT_X2])]
 }
 
-// (0, 1, 0), (2, 3, 2), (4, 5, 1).
-pub(crate) fn p1_steps() -> [u8; 24] {
-    let mut steps = [0u8; 24];
-    put_step(&mut steps, 0, 0, 1, 0);
-    put_step(&mut steps, 1, 2, 3, 2);
-    put_step(&mut steps, 2, 4, 5, 1);
-    steps
+pub(crate) fn p1_steps() -> [[u8; 8]; 3] {
+    [step(0, 1, 0, 0), step(2, 3, 2, 0), step(4, 5, 1, 0)]
 }

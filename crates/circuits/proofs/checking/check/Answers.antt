@@ -1,63 +1,61 @@
 -- `circuits::checking::check` meets its contract, a law for each answer. Assumes nothing.
-use Rattle.std.proofs.Common.{arith}
+use Rattle.std.proofs.Common.{◌≡◌, ℕ, List, Result, Ok, refl, subst, ap, arith}
+use Rattle.std.proofs.lemmas.Result.{err_from_is_err_and}
+use Rattle.records.specs.declared.refusals.Refusal.{Refusal}
+use Rattle.records.specs.Tests.{Verdict, Says}
+use Rattle.records.specs.Derivation.{Outcome, Derives}
+use Rattle.records.specs.Refusal.{verdict_by, tested, verdict_of}
+use Rattle.records.proofs.NamedLaws.{numbered}
 use Rattle.circuits.proofs.InsideLaws.{tables_refused, room_refused, gate_room_refused, derivation_refused, build_answers, buildable}
 use Rattle.circuits.proofs.checking.check.Goals as goal
 
-pub returns-then-of_tables-ne0 : goal.returns-then-of_tables-ne0
-returns-then-of_tables-ne0 c =
-    let args = c.args in
-    let test-tables = c.test_tables-tables in
-    let if1 = c.if-of_tables-ne0 in
-    tables_refused 32 1024 args.a.now args.b.now args.steps.now args.work.now args.gates.now test-tables.result _ test-tables.ensures if1.true c.refuse.ensures
+-- what is accepted has number 0
+accepted : {A : Type 0} (place : A → ℕ) (r : Result A Refusal) (x : A) → r ≡ Ok x → (verdict_by place r).number ≡ 0
+accepted {A = A} place r x e = ap (λ (r : Result A Refusal). (verdict_by place r).number) e
 
-pub returns-then-of_room-ne0 : goal.returns-then-of_room-ne0
-returns-then-of_room-ne0 c =
-    let args = c.args in
-    let test-tables = c.test_tables-tables in
-    let if1 = c.if-of_tables-ne0 in
-    let test-room = c.test_room-room in
-    let if2 = c.if-of_room-ne0 in
-    room_refused 32 1024 args.a.now args.b.now args.steps.now args.work.now args.gates.now test-tables.result test-tables.ensures if1.false test-room.result _ test-room.ensures if2.true c.refuse-then-of_room-ne0.ensures
+-- what was said of a result that is known
+says_known : (v : Verdict) (r s : Result (Unit {0}) Refusal) → r ≡ s → Says v (tested r) → Says v (tested s)
+says_known v r s e says = subst (λ r. Says v (tested r)) e says
+
+derives_known : (o : Outcome) (last : List ℕ) (r s : Result ℕ Refusal) → r ≡ s → Derives o last (verdict_of r) → Derives o last (verdict_of s)
+derives_known o last r s e derives = subst (λ r. Derives o last (verdict_of r)) e derives
+
+pub returns-in_err-test_tables : goal.returns-in_err-test_tables
+returns-in_err-test_tables c =
+    let p = err_from_is_err_and c.from_residual.result c.from_residual.ensures.1 in
+    rw (p.1, p.2)
+    (tables_refused 32 1024 c.args.a.now c.args.b.now c.args.steps.now c.args.work.now c.args.gates.now _
+    (says_known _ _ _ c.in_err-test_tables.was c.test_tables.ensures) (numbered _))
+
+pub returns-in_err-test_room : goal.returns-in_err-test_room
+returns-in_err-test_room c =
+    let p = err_from_is_err_and c.from_residual-in_err-test_room.result c.from_residual-in_err-test_room.ensures.1 in
+    rw (p.1, p.2)
+    (room_refused 32 1024 c.args.a.now c.args.b.now c.args.steps.now c.args.work.now c.args.gates.now (tested c.test_tables.result) c.test_tables.ensures (accepted _ _ _ c.in_ok-test_tables.was) _
+    (says_known _ _ _ c.in_err-test_room.was c.test_room.ensures) (numbered _))
 
 pub returns-then-gates-steps : goal.returns-then-gates-steps
 returns-then-gates-steps c =
-    let args = c.args in
-    let test-tables = c.test_tables-tables in
-    let if1 = c.if-of_tables-ne0 in
-    let test-room = c.test_room-room in
-    let if2 = c.if-of_room-ne0 in
-    let if3 = c.if-gates-steps in
-    gate_room_refused 32 1024 args.a.now args.b.now args.steps.now args.work.now args.gates.now test-tables.result test-tables.ensures if1.false test-room.result test-room.ensures if2.false _ (omega (arith, if3.true)) c.refuse-then-gates-steps.ensures
+    gate_room_refused 32 1024 c.args.a.now c.args.b.now c.args.steps.now c.args.work.now c.args.gates.now
+    (tested c.test_tables.result) c.test_tables.ensures (accepted _ _ _ c.in_ok-test_tables.was) (tested c.test_room.result) c.test_room.ensures (accepted _ _ _ c.in_ok-test_room.was)
+    (omega (arith, c.if-gates-steps.true))
 
-pub returns-then-number-ne0 : goal.returns-then-number-ne0
-returns-then-number-ne0 c =
-    let args = c.args in
-    let test-tables = c.test_tables-tables in
-    let if1 = c.if-of_tables-ne0 in
-    let test-room = c.test_room-room in
-    let if2 = c.if-of_room-ne0 in
-    let if3 = c.if-gates-steps in
-    let derive = c.derive-derived in
-    let if4 = c.if-number-ne0 in
-    derivation_refused 32 1024 args.a.now args.b.now args.steps.now args.work.now args.gates.now test-tables.result test-tables.ensures if1.false test-room.result test-room.ensures if2.false (omega (arith, if3.false)) _ derive.result derive.ensures _ (λ e. absurd (omega (arith, e, if4.true))) c.refuse-then-number-ne0.ensures
+pub returns-in_err-clause : goal.returns-in_err-clause
+returns-in_err-clause c =
+    let p = err_from_is_err_and c.from_residual-in_err-clause.result c.from_residual-in_err-clause.ensures.1 in
+    rw (p.1, p.2)
+    (derivation_refused 32 1024 c.args.a.now c.args.b.now c.args.steps.now c.args.work.now c.args.gates.now
+    (tested c.test_tables.result) c.test_tables.ensures (accepted _ _ _ c.in_ok-test_tables.was) (tested c.test_room.result) c.test_room.ensures (accepted _ _ _ c.in_ok-test_room.was)
+    (omega (arith, c.if-gates-steps.false)) _ _ (derives_known _ _ _ _ c.in_err-clause.was c.derive-derived.ensures) (numbered _))
 
+-- the derivation answered the root's clause number
 pub build-built-requires : goal.build-built-requires
 build-built-requires c =
-    let args = c.args in
-    let derive = c.derive-derived in
-    let if4 = c.if-number-ne0 in
-    let if3 = c.if-gates-steps in
-    buildable 32 1024 args.a.now args.b.now args.steps.now args.work.now args.gates.now _ derive.result derive.ensures (omega (arith, if4.false)) (omega arith) (omega (arith, if3.false))
+    buildable 32 1024 c.args.a.now c.args.b.now c.args.steps.now c.args.work.now c.args.gates.now _ _
+    (derives_known _ _ _ _ c.in_ok-clause.was c.derive-derived.ensures) refl (omega arith) (omega (arith, c.if-gates-steps.false))
 
 pub returns : goal.returns
 returns c =
-    let args = c.args in
-    let test-tables = c.test_tables-tables in
-    let if1 = c.if-of_tables-ne0 in
-    let test-room = c.test_room-room in
-    let if2 = c.if-of_room-ne0 in
-    let if3 = c.if-gates-steps in
-    let derive = c.derive-derived in
-    let if4 = c.if-number-ne0 in
-    let build = c.build-built in
-    build_answers 32 1024 args.a.now args.b.now args.steps.now args.work.now args.gates.now test-tables.result test-tables.ensures if1.false test-room.result test-room.ensures if2.false (omega (arith, if3.false)) _ derive.result derive.ensures if4.false build.result _ build.ensures
+    build_answers 32 1024 c.args.a.now c.args.b.now c.args.steps.now c.args.work.now c.args.gates.now
+    (tested c.test_tables.result) c.test_tables.ensures (accepted _ _ _ c.in_ok-test_tables.was) (tested c.test_room.result) c.test_room.ensures (accepted _ _ _ c.in_ok-test_room.was)
+    (omega (arith, c.if-gates-steps.false)) _ _ (derives_known _ _ _ _ c.in_ok-clause.was c.derive-derived.ensures) refl c.build-built.result _ c.build-built.ensures

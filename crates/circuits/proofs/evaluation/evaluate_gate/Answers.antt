@@ -1,22 +1,19 @@
 -- `circuits::evaluation::evaluate_gate` meets its contract: 22 by kind, 23, or the value of the lowest bits. Assumes nothing.
-use Rattle.std.proofs.Common.{arith}
+use Rattle.std.proofs.Common.{refl}
+use Rattle.std.proofs.lemmas.Result.{err_from_is_err_and}
 use Rattle.circuits.proofs.EvaluateInsideLaws.{gate_refused, gate_valued}
 use Rattle.circuits.proofs.evaluation.evaluate_gate.Goals as goal
 
-pub returns-then-number-ne0 : goal.returns-then-number-ne0
-returns-then-number-ne0 c = rw c.refuse.ensures (gate_refused _ _ c.or_of-or.ensures c.test_gate-number.ensures c.if-number-ne0.true)
+pub returns-in_err-kind : goal.returns-in_err-kind
+returns-in_err-kind c =
+    let p = err_from_is_err_and c.from_residual.result c.from_residual.ensures.1 in
+    rw (p.1, p.2) (gate_refused c.args.values.now c.args.k (rw c.in_err-kind.was at c.test_gate.ensures))
 
 pub bounds-values-left : goal.bounds-values-left
-bounds-values-left c = omega (arith, c.test_gate-number.ensures.formed c.if-number-ne0.false)
+bounds-values-left c = (c.test_gate.ensures.formed _ c.in_ok-kind.was).1
 
 pub bounds-values-right : goal.bounds-values-right
-bounds-values-right c = omega (arith, c.test_gate-number.ensures.formed c.if-number-ne0.false)
-
-pub gate_value-value-requires : goal.gate_value-value-requires
-gate_value-value-requires c = omega (arith, c.test_gate-number.ensures.formed c.if-number-ne0.false)
+bounds-values-right c = (c.test_gate.ensures.formed _ c.in_ok-kind.was).2
 
 pub returns : goal.returns
-returns c =
-    let or = c.or_of-or.ensures in
-    let tested = c.test_gate-number.ensures in
-    gate_valued _ _ or tested c.if-number-ne0.false c.gate_value-value.ensures
+returns c = gate_valued c.args.values.now c.args.k (rw c.in_ok-kind.was at c.test_gate.ensures) c.gate_value.ensures refl

@@ -1,25 +1,16 @@
 -- `circuits::evaluation::evaluate_halves` meets its contract: the gates, then the root. Assumes nothing.
-use Rattle.std.proofs.Common.{arith}
+use Rattle.std.proofs.Common.{arith, refl}
+use Rattle.std.proofs.lemmas.Result.{err_from_is_err_and}
 use Rattle.circuits.proofs.EvaluateInsideLaws.{within_gates, within_root, within_value}
 use Rattle.circuits.proofs.evaluation.evaluate_halves.Goals as goal
 
-pub evaluate_gates-ran-requires : goal.evaluate_gates-ran-requires
-evaluate_gates-ran-requires c = c.requires
-
-pub returns-then-number-ne0 : goal.returns-then-number-ne0
-returns-then-number-ne0 c =
-    let gates = c.evaluate_gates-ran in
-    rw c.refuse.ensures (within_gates _ _ _ _ _ gates.result gates.ensures c.if-number-ne0.true)
+pub returns-in_err-evaluate_gates : goal.returns-in_err-evaluate_gates
+returns-in_err-evaluate_gates c =
+    let p = err_from_is_err_and c.from_residual.result c.from_residual.ensures.1 in
+    rw (p.1, p.2) (within_gates _ _ _ _ _ (rw c.in_err-evaluate_gates.was at c.evaluate_gates.ensures))
 
 pub returns-then-half-table : goal.returns-then-half-table
-returns-then-half-table c =
-    let gates = c.evaluate_gates-ran in
-    rw c.refuse-then-half-table.ensures (within_root _ _ _ _ _ gates.result gates.ensures c.if-number-ne0.false (omega arith))
-
-pub overflow_cast-value : goal.overflow_cast-value
-overflow_cast-value c = omega (arith, c.type_inv.values c.args.root)
+returns-then-half-table c = within_root _ _ _ _ _ (rw c.in_ok-evaluate_gates.was at c.evaluate_gates.ensures) (omega arith)
 
 pub returns : goal.returns
-returns c =
-    let gates = c.evaluate_gates-ran in
-    within_value _ _ _ _ _ gates.result gates.ensures c.if-number-ne0.false (omega arith)
+returns c = within_value _ _ _ _ _ (rw c.in_ok-evaluate_gates.was at c.evaluate_gates.ensures) (omega arith) refl

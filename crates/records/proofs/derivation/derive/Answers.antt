@@ -1,50 +1,35 @@
 -- `records::derivation::derive` meets its contract: tests 1 to 4, test 5, and then the derivation. Assumes nothing.
-use mathlib.Core.Path.{sym, ◌∙◌}
+use mathlib.Core.Path.{sym, ap, ◌∙◌}
 use native.Mathlib.Omega.{arith}
+use Rattle.std.proofs.lemmas.Result.{err_from_is_err_and}
+use Rattle.records.specs.Refusal.{tested}
 use Rattle.records.specs.Derivation.{derived}
-use Rattle.records.proofs.DerivationLaws.{judged_says, derives_refused, derives_next}
+use Rattle.records.proofs.DerivationLaws.{judged_says, stage_refused, stage_passed}
 use Rattle.records.proofs.InsideLaws.{sized_by}
 use Rattle.records.proofs.derivation.derive.Goals as goal
 
-pub returns-then-of_tables-ne0 : goal.returns-then-of_tables-ne0
+pub returns-in_err-test_tables : goal.returns-in_err-test_tables
 unfolding derived
-returns-then-of_tables-ne0 c =
-    let if1 = c.if-of_tables-ne0 in
-    let test-tables = c.test_tables-tables in
-    derives_refused _ _ _ (judged_says _ _ _ test-tables.ensures) _ if1.true
+returns-in_err-test_tables c =
+    let p = err_from_is_err_and c.from_residual.result c.from_residual.ensures.1 in
+    rw (p.1, p.2) (stage_refused _ _ _ c.test_tables.result (judged_says _ _ _ c.test_tables.ensures) _ _ c.in_err-test_tables.was)
 
-pub returns-then-of_room-ne0 : goal.returns-then-of_room-ne0
+pub returns-in_err-test_room : goal.returns-in_err-test_room
 unfolding derived
-returns-then-of_room-ne0 c =
-    let if2 = c.if-of_room-ne0 in
-    let test-tables = c.test_tables-tables in
-    let if1 = c.if-of_tables-ne0 in
-    let test-room = c.test_room-room in
-    derives_next _ _ _ (judged_says _ _ _ test-tables.ensures) _ if1.false _ _ (derives_refused _ _ _ (judged_says _ _ _ test-room.ensures) _ if2.true)
+returns-in_err-test_room c =
+    let p = err_from_is_err_and c.from_residual-in_err-test_room.result c.from_residual-in_err-test_room.ensures.1 in
+    rw (p.1, p.2)
+    (stage_passed _ _ _ c.test_tables.result (judged_says _ _ _ c.test_tables.ensures) _ _ c.in_ok-test_tables.was _ _
+    (stage_refused _ _ _ c.test_room.result (judged_says _ _ _ c.test_room.ensures) _ _ c.in_err-test_room.was))
 
-pub slice_bounds-derive_halves-end : goal.slice_bounds-derive_halves-end
-slice_bounds-derive_halves-end c =
-    let all-masks = c.all_masks-masks in
-    sym all-masks.ensures.size
-
-pub derive_halves-requires : goal.derive_halves-requires
-derive_halves-requires c =
-    let all-masks = c.all_masks-masks in
-    let test-tables = c.test_tables-tables in
-    let if1 = c.if-of_tables-ne0 in
-    let test-room = c.test_room-room in
-    let if2 = c.if-of_room-ne0 in
-    let passed = sym test-tables.ensures.number ∙ if1.false in
-    let room = sym test-room.ensures.number ∙ if2.false in
-    (sized_by 32 1024 _ _ _ _ (omega arith) (omega arith) (omega arith) passed room, all-masks.ensures)
+pub derive-requires : goal.derive-requires
+derive-requires c =
+    let passed = sym c.test_tables.ensures.number ∙ ap (λ r. (tested r).number) c.in_ok-test_tables.was in
+    let room = sym c.test_room.ensures.number ∙ ap (λ r. (tested r).number) c.in_ok-test_room.was in
+    (omega arith, sized_by 32 1024 _ _ _ _ (omega arith) (omega arith) (omega arith) passed room)
 
 pub returns : goal.returns
 unfolding derived
 returns c =
-    let test-tables = c.test_tables-tables in
-    let if1 = c.if-of_tables-ne0 in
-    let test-room = c.test_room-room in
-    let if2 = c.if-of_room-ne0 in
-    let derive-halves = c.derive_halves in
-    derives_next _ _ _ (judged_says _ _ _ test-tables.ensures) _ if1.false _ _
-    (derives_next _ _ _ (judged_says _ _ _ test-room.ensures) _ if2.false _ _ derive-halves.ensures)
+    stage_passed _ _ _ c.test_tables.result (judged_says _ _ _ c.test_tables.ensures) _ _ c.in_ok-test_tables.was _ _
+    (stage_passed _ _ _ c.test_room.result (judged_says _ _ _ c.test_room.ensures) _ _ c.in_ok-test_room.was _ _ c.derive.ensures)

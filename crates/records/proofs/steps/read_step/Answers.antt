@@ -20,19 +20,14 @@ returns-then-s-lt8 c =
       spare = rw none refl;
     }
 
-pub overflow_cast-pivot : goal.overflow_cast-pivot
-overflow_cast-pivot c = omega (arith, c.type_inv.s 4)
-
 pub returns : goal.returns
 unfolding step_at
 returns c =
     let record_of = c.record_of-s in
-    let pair = c.pair-left in
-    let pair2 = c.pair-right in
     let s = record_of.result.now in
     record {
-      left = rw (← record_of.ensures) pair.ensures;
-      right = rw (← record_of.ensures) pair2.ensures;
-      pivot = rw (← record_of.ensures) refl;
+      left = rw (← record_of.ensures) (omega (arith, c.from.ensures));
+      right = rw (← record_of.ensures) (omega (arith, c.from-2.ensures));
+      pivot = rw (← record_of.ensures) c.from-3.ensures;
       spare = rw (← record_of.ensures) (spare_joined (get_or s 5 0) (get_or s 6 0) (get_or s 7 0));
     }
