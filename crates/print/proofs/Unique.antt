@@ -6,7 +6,7 @@ use mathlib.Core.List.{List}
 use lib.IntN.{ℤ}
 use Rattle.records.specs.Tests.{Verdict, first_failed, Says}
 use Rattle.print.specs.File.{size_read, IsSize}
-use Rattle.std.specs.Prelude.{⊤, Result, Ok, Err, Option, None, Some}
+use Rattle.std.specs.Prelude.{⊤, Bool, Result, Ok, Err, Option, None, Some}
 use Rattle.print.specs.declared.report.File.{File}
 use Rattle.print.specs.declared.report.File.TheVariants.{A, B, Steps}
 use Rattle.print.specs.Report.{file_place, file_verdict, file_tests, report_text}
@@ -44,11 +44,11 @@ pub refused_file_unique : (a b steps : List ℕ) (r r' : Result ⊤ File) → Sa
     → r ≡ r'
 refused_file_unique a b steps r r' p q = same_file r r' (same p.number q.number) (same p.place q.place)
 
-pub size_unique : (size : ℕ) (behind r r' : Option ℕ) → IsSize size behind r → IsSize size behind r' → r ≡ r'
-size_unique size behind None None p q = refl
-size_unique size behind None (Some n) p q = let e : n + 1 ≡ n = same (p (n + 1)) (q (n + 1)) in absurd (omega arith)
-size_unique size behind (Some n) None p q = let e : n ≡ n + 1 = same (p (n + 1)) (q (n + 1)) in absurd (omega arith)
-size_unique size behind (Some m) (Some n) p q = ap Some (same (p 0) (q 0))
+pub size_unique : (opened : Bool) (size : ℕ) (behind r r' : Option ℕ) → IsSize opened size behind r → IsSize opened size behind r' → r ≡ r'
+size_unique opened size behind None None p q = refl
+size_unique opened size behind None (Some n) p q = let e : n + 1 ≡ n = same (p (n + 1)) (q (n + 1)) in absurd (omega arith)
+size_unique opened size behind (Some n) None p q = let e : n ≡ n + 1 = same (p (n + 1)) (q (n + 1)) in absurd (omega arith)
+size_unique opened size behind (Some m) (Some n) p q = ap Some (same (p 0) (q 0))
 
 pub file_size_unique : (longer size : ℕ) (file behind : ℤ) (r r' : ℕ) → r ≡ size_read longer file size behind → r' ≡ size_read longer file size behind → r ≡ r'
 file_size_unique longer size file behind r r' = same

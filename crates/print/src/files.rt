@@ -1,5 +1,5 @@
 // Reading a file whole.
-ghost use Rattle.std.specs.Prelude.{◌≡◌, ℕ, ◌<◌, pos, Some, length, take, IfSome};
+ghost use Rattle.std.specs.Prelude.{◌≡◌, ℕ, ◌<◌, ◌≤◌, Some, length, take, IfSome};
 ghost use Rattle.std.specs.Counts.{IsPrefixLen};
 ghost use Rattle.std.specs.Io.KnownBytes.{Consumes, IsAtEnd};
 ghost use Rattle.print.specs.File.{IsSize};
@@ -8,10 +8,14 @@ use std::fs::File;
 use std::io::Read;
 use std::rt::Files;
 
-// A file's size, by the bytes that were read and what one read behind them gave. There is none where the file is not read to its end.
-fn file_size(size: usize, behind: Option<usize>) -> Option<usize>
-    ensures { IsSize size behind result }
+// A file's size, by whether it was opened, the bytes that were read and what one read behind them gave. There is none where the file is not read
+// to its end.
+fn file_size(opened: bool, size: usize, behind: Option<usize>) -> Option<usize>
+    ensures { IsSize opened size behind result }
 {
+    if !opened {
+        return None;
+    }
     match behind {
         Some(0) => Some(size),
         // There is more.
@@ -57,13 +61,27 @@ fn read_open<R: Read>(reader: &mut R, to: &mut [u8]) -> Option<usize>
     ensures whole { IfSome result (λ size. IfSome (R.remaining reader.old) (λ xs. take size to.new ≡ xs)) }
 {
     let size = read_full(reader, to);
-    file_size(size, read_behind(reader))
+    file_size(true, size, read_behind(reader))
 }
 
-// Reads a file of at most as many bytes as the buffer has, and answers how many it has, if it can be read and is no longer.
-pub(crate) fn read_file<R: Files>(rt: &R, path: &str, to: &mut [u8]) -> Option<usize>
-    ensures { IfSome result (λ size. IsPrefixLen size to.new) }
+// The same of a file of at most so many bytes, and answers how many are handed on: one that is not read to its end is handed on as one that is longer.
+// Within the limit stands only what the read behind the bytes found ended.
+fn read_handed<R: Read>(reader: &mut R, limit: usize, to: &mut [u8]) -> usize
+    requires { limit < length to.old }
+    ensures within { IsPrefixLen result to.new }
+    ensures whole { result ≤ limit → IfSome (R.remaining reader.old) (λ xs. take result to.new ≡ xs) }
 {
-    let mut file = File::open(rt, path).ok()?;
-    read_open(&mut file, to)
+    read_open(reader, to).unwrap_or(limit + 1)
+}
+
+// Reads a file of at most so many bytes, and answers how many it has. A file that can't be read or is longer is handed on as one that is
+// longer: `limit + 1` bytes. Where the open fails nothing is read.
+pub(crate) fn read_file<R: Files>(rt: &R, path: &str, limit: usize, to: &mut [u8]) -> usize
+    requires { limit < length to.old }
+    ensures { IsPrefixLen result to.new }
+{
+    match File::open(rt, path) {
+        Ok(mut file) => read_handed(&mut file, limit, to),
+        Err(_) => file_size(false, 0, None).unwrap_or(limit + 1),
+    }
 }
