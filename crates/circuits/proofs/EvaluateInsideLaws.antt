@@ -179,7 +179,7 @@ filled_start N assignment bytes room =
     (get_or-set_same (set bytes 0 0) 1 1 0 (omega (arith, length-set bytes 0 0)))
 
 -- the rows of constants keep to the rule of a row: sixteen of eight
-abbrev row_holds : ℕ → List ℕ → Bool
+abbrev pub row_holds : ℕ → List ℕ → Bool
 row_holds n row = eqb (length row) 8 && holds_from (λ i x. eqb x (row_value n i)) 0 row
 
 rows_hold : holds_from row_holds 0 ROWS ≡ true
@@ -324,7 +324,7 @@ module _ (h most : ℕ) (assignment t : List ℕ) where
   length_assignment other =
       fails (eqb (length assignment) h) 20 0 (test (eqb (length t % 8) 0 && leb (length t) (8 * most)) 21 0 ∷ []) (ne_eqb (length assignment) h other)
 
-  length_table : length assignment ≡ h → (eqb (length t % 8) 0 && leb (length t) (8 * most)) ≡ false → first_failed (length_tests h most assignment t) ≡ record { number = 21; place = 0 }
+  pub length_table : length assignment ≡ h → (eqb (length t % 8) 0 && leb (length t) (8 * most)) ≡ false → first_failed (length_tests h most assignment t) ≡ record { number = 21; place = 0 }
   unfolding length_tests
   length_table size e =
       passes (eqb (length assignment) h) 20 0 (test (eqb (length t % 8) 0 && leb (length t) (8 * most)) 21 0 ∷ []) (eq-eqb (length assignment) h size)
@@ -349,7 +349,7 @@ module _ (h most : ℕ) (assignment t : List ℕ) where
 
   -- where no length is refused
   module _ (e : record { number = 0; place = 0 } ≡ first_failed (length_tests h most assignment t)) where
-    lengths_passed : Passed (length_tests h most assignment t)
+    pub lengths_passed : Passed (length_tests h most assignment t)
     lengths_passed = none_passed (length_tests h most assignment t) lengths_numbered (sym (ap (λ (v : Verdict). v.number) e))
 
     pub lengths_size : length assignment ≡ h

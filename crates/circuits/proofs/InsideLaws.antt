@@ -153,7 +153,7 @@ builds_by x y k root t count t' rs' p e l reference r =
 abbrev pub refused_with : Verdict → Answer
 refused_with v = record { number = v.number; place = v.place; root = 0; count = 0 }
 
-answers_refused : (c : Checked) (o : Outcome) (w g : List ℕ) (v : Verdict) → c ≡ refusal o g → v.number ≡ o.number → v.place ≡ o.place → w ≡ o.work → Checks c (refused_with v) w g
+pub answers_refused : (c : Checked) (o : Outcome) (w g : List ℕ) (v : Verdict) → c ≡ refusal o g → v.number ≡ o.number → v.place ≡ o.place → w ≡ o.work → Checks c (refused_with v) w g
 answers_refused c o w g v e n p work =
     rw e
     (record {

@@ -219,7 +219,7 @@ module _ {A : Type 0} (place : A → ℕ) (o : Outcome) (last : List ℕ) (r : R
 
 -- the root's stage: a root, or 11
 module _ (h : ℕ) (a b : List ℕ) (s : ℕ) (work : List ℕ) (root : ℕ) (is : root ≡ root_of h a b work (inputs h a b + s)) where
-  root_found : root < inputs h a b + s → Derives (rooted h a b s work) work (record { number = 0; place = root })
+  pub root_found : root < inputs h a b + s → Derives (rooted h a b s work) work (record { number = 0; place = root })
   unfolding rooted and_then root_tests first_failed
   root_found l = rw (← is, lt-ltb root (inputs h a b + s) l) (record { number = refl; place = refl; work = refl })
 
